@@ -1,0 +1,2 @@
+pub mod Adsr
+pub mod Range

@@ -1,0 +1,5 @@
+pub mod Parts
+pub mod Number
+pub mod TwosComplement
+pub mod Table
+pub mod Saturation
