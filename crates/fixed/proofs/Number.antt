@@ -1,7 +1,7 @@
 -- What a signed expression of the code is, and its range, found as the code is written. A `Num` holds the machine's term, the
 -- integer that it is, its range and the proof. There is one for each operation, and `hold w` for what is stored in a local of
 -- width w and read back. With numerals for the ranges they compute, so that each fit is `tt`. Assumes nothing.
-use mathlib.Core.Path.{_≡_, refl, sym, ap, _∙_, subst}
+use mathlib.Core.Path.{_≡_, refl, sym, ap₂, _∙_, subst}
 use mathlib.Core.Bool.{Bool, true, false}
 use Prim.Native.Nat.{ℕ, zero, suc, _+_, _-_, _*_, _/_, _^_, _≤_, _<_, max, zero-le, suc-le-suc}
 use native.Mathlib.Nat.{mul-le-mul, le-max-left, le-max-right, le-trans, le-refl, lt-of-le-of-lt, add-div-right, mul-le-mul-right, div-le-self}
@@ -10,7 +10,7 @@ use lib.Ieee.Nearest.{div-mono}
 use lib.IntN.{ℤ, pos, negsuc, natAbs, _+ℤ_, _-ℤ_, _*ℤ_}
 use lib.Signed.{mag, nonNeg, shrZ}
 use lib.Dec.{T, leb, ltb, leb→le, ltb→lt}
-use mir.Syntax.{Width}
+use mir.Syntax.{Width, w32}
 use mir.Val.{Fits, SFits, toZ, ofZ, hbits, bits}
 use mir.Facts.{toZ-ofZ, toZ-pos}
 use Rattle.fixed.specs.Range.{up, dn, In}
@@ -191,3 +191,8 @@ shr m t x =
 
 abbrev pub shr-any : ℕ → Num → Num
 shr-any m x = record { code = shrZ (x .code) m; val = shrZ (x .val) m; l = x .l; h = x .h; is = rw (x .is); within = shr-keep (x .val) m (x .within) }
+
+-- what `product` gives of two numbers
+abbrev pub prod : (x y : Num) {r : ℤ} → r ≡ productOf (x .code) (y .code)
+    → Room w32 ((max (x .l * y .h) (x .h * y .l) + 0x7FFF) / 0x8000) (max (x .h * y .h) (x .l * y .l) / 0x8000) → Num
+prod x y e t = res w32 (e ∙ ap₂ productOf (x .is) (y .is)) (product-in (x .within) (y .within)) t
