@@ -1,4 +1,10 @@
 // The envelope generator: the level of one voice over time.
+ghost use mathlib.Core.Path.{_≡_};
+ghost use mathlib.Core.Bool.{cond, false};
+ghost use Prim.Native.Nat.{_-_, _^_, _<_};
+ghost use lib.IntN.{pos};
+ghost use Rattle.fixed.specs.Range.{In};
+ghost use Rattle.envelope.specs.Adsr.{rise, fall, rateOf, sustainLevel, cyclesOf, stepOf, clamped, active, enteredOf, phaseAfter, movedOf, tickedOf};
 
 // The first variant is the one of a fresh voice.
 pub enum Phase {
@@ -22,4 +28,179 @@ pub struct Rate {
     pub value: i32,
     pub exponential: bool,
     pub falling: bool,
+}
+
+// The value of a step, 0 to 3 of a register, before the shift.
+fn value(n: u16, falling: bool) -> i32
+    requires { ⌜ n < 4 ⌝ }
+    ensures { λ r. ⌜ r ≡ cond falling (fall n) (rise n) ⌝ }
+{
+    if falling {
+        n as i32 - 8
+    } else {
+        (7 - n) as i32
+    }
+}
+
+// The rate of a phase with steps, of its fields.
+fn moving(shift: u16, n: u16, exponential: bool, falling: bool) -> Rate
+    requires { ⌜ n < 4 ⌝ }
+    ensures { λ r. ⌜ r ≡ record { shift = shift; value = cond falling (fall n) (rise n); exponential = exponential; falling = falling } ⌝ }
+{
+    Rate {
+        shift: shift as u32,
+        value: value(n, falling),
+        exponential,
+        falling,
+    }
+}
+
+// The rate of a phase without steps.
+fn still() -> Rate
+    ensures { λ r. ⌜ r ≡ record { shift = 0; value = pos 0; exponential = false; falling = false } ⌝ }
+{
+    Rate {
+        shift: 0,
+        value: 0,
+        exponential: false,
+        falling: false,
+    }
+}
+
+// The rate of a phase, of the two halfwords of the registers.
+fn rate_of(phase: Phase, low: u16, high: u16) -> Rate
+    ensures { λ r. ⌜ r ≡ rateOf phase low high ⌝ }
+{
+    match phase {
+        Phase::Idle => still(),
+        Phase::Attack => moving(low / 0x400 % 32, low / 0x100 % 4, low / 0x8000 % 2 == 1, false),
+        Phase::Decay => moving(low / 0x10 % 16, 0, true, true),
+        Phase::Sustain => moving(high / 0x100 % 32, high / 0x40 % 4, high / 0x8000 % 2 == 1, high / 0x4000 % 2 == 1),
+        Phase::Release => moving(high % 32, 0, high / 0x20 % 2 == 1, true),
+        Phase::Off => still(),
+    }
+}
+
+// 2 to the power of a - b, where b is no more than a, and else 1.
+fn power(a: u32, b: u32) -> u32
+    requires { ⌜ a < 32 ⌝ }
+    ensures { λ r. ⌜ r ≡ 2 ^ (a - b) ⌝ }
+{
+    if b < a {
+        1 << (a - b)
+    } else {
+        1
+    }
+}
+
+// The ticks from one step to the next.
+fn cycles(r: Rate, level: u16) -> u32
+    requires { ⌜ r .shift < 32 ⌝ }
+    ensures { λ n. ⌜ n ≡ cyclesOf r level ⌝ }
+{
+    let n = power(r.shift, 11);
+    if r.exponential & (!r.falling & (0x6000 < level)) {
+        n * 4
+    } else {
+        n
+    }
+}
+
+// How far the level moves in a step.
+fn step(r: Rate, level: u16) -> i32
+    requires { ⌜ In 8 7 (r .value) ⌝ }
+    ensures { λ z. ⌜ z ≡ stepOf r level ⌝ }
+{
+    let full = r.value * (power(11, r.shift) as i32);
+    if r.exponential & r.falling {
+        (full * (level as i32)) >> 15
+    } else {
+        full
+    }
+}
+
+// The level is held to 0..7FFFh.
+fn clamp(x: i32) -> u16
+    ensures { λ r. ⌜ r ≡ clamped x ⌝ }
+{
+    if x < 0 {
+        return 0;
+    }
+    if 0x7FFF < x {
+        return 0x7FFF;
+    }
+    x as u16
+}
+
+// The phases whose level moves.
+fn is_active(phase: Phase) -> bool
+    ensures { λ r. ⌜ r ≡ active phase ⌝ }
+{
+    match phase {
+        Phase::Idle => false,
+        Phase::Attack => true,
+        Phase::Decay => true,
+        Phase::Sustain => true,
+        Phase::Release => true,
+        Phase::Off => false,
+    }
+}
+
+// A phase begins, or its next wait.
+pub fn enter(phase: Phase, level: u16, low: u16, high: u16) -> Envelope
+    ensures { λ r. ⌜ r ≡ enteredOf phase level low high ⌝ }
+{
+    if is_active(phase) {
+        let wait = cycles(rate_of(phase, low, high), level);
+        Envelope { phase, level, wait }
+    } else {
+        Envelope { phase, level, wait: 0 }
+    }
+}
+
+// The level at which Decay ends.
+fn sustain_level(low: u16) -> u16
+    ensures { λ r. ⌜ r ≡ sustainLevel low ⌝ }
+{
+    (low % 16 + 1) * 0x800
+}
+
+// The phase after a step to the level.
+fn phase_after(phase: Phase, level: u16, low: u16) -> Phase
+    ensures { λ r. ⌜ r ≡ phaseAfter phase level low ⌝ }
+{
+    match phase {
+        Phase::Idle => Phase::Idle,
+        Phase::Attack => if level == 0x7FFF { Phase::Decay } else { Phase::Attack },
+        Phase::Decay => if level <= sustain_level(low) { Phase::Sustain } else { Phase::Decay },
+        Phase::Sustain => Phase::Sustain,
+        Phase::Release => if level == 0 { Phase::Off } else { Phase::Release },
+        Phase::Off => Phase::Off,
+    }
+}
+
+// One step.
+fn moved(phase: Phase, level: u16, low: u16, high: u16) -> Envelope
+    ensures { λ r. ⌜ r ≡ movedOf phase level low high ⌝ }
+{
+    let rate = rate_of(phase, low, high);
+    let next = clamp(level as i32 + step(rate, level));
+    enter(phase_after(phase, next, low), next, low, high)
+}
+
+// One tick.
+pub fn tick(e: Envelope, low: u16, high: u16) -> Envelope
+    ensures { λ r. ⌜ r ≡ tickedOf e low high ⌝ }
+{
+    let phase = e.phase;
+    if !is_active(phase) {
+        return e;
+    }
+    let level = e.level;
+    let wait = e.wait;
+    if 1 < wait {
+        Envelope { phase, level, wait: wait - 1 }
+    } else {
+        moved(phase, level, low, high)
+    }
 }
