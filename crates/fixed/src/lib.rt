@@ -44,13 +44,21 @@ pub fn to_signed(x: u16) -> i16
     }
 }
 
+// The low 16 bits of a number of at most 17 bits.
+pub fn low16(x: i32) -> u16
+    requires { ⌜ In 0x10000 0xFFFF x ⌝ }
+    ensures { λ r. ⌜ r ≡ bitsOf 16 x ⌝ }
+{
+    if x < 0 {
+        (x + 0x10000) as u16
+    } else {
+        x as u16
+    }
+}
+
 // A signed number as a halfword.
 pub fn to_bits(x: i16) -> u16
     ensures { λ r. ⌜ r ≡ bitsOf 16 x ⌝ }
 {
-    if x < 0 {
-        (x as i32 + 0x10000) as u16
-    } else {
-        x as u16
-    }
+    low16(x as i32)
 }

@@ -1,3 +1,6 @@
+use borrow.Author.Tests.{eq-eqb, ne-eqb}
+use Rattle.envelope.specs.Adsr.{phaseAfter}
+use Rattle.envelope.proofs.Phases.{phase-at, decay-ends, decay-stays}
 use borrow.Author.Needs.{needs}
 use Rattle.envelope.proofs.phase_after.Statement.{statement}
 use Rattle.envelope.proofs.phase_after.Tie as tie
@@ -35,39 +38,46 @@ enum-told-6 c = search needs
 
 -- src/lib.rt:169:1
 returns : tie.Need-returns
-returns c = ?
+unfolding phaseAfter
+returns c = search phase-at
 
 -- src/lib.rt:169:1
 returns-2 : tie.Need-returns-2
-returns-2 c = ?
+unfolding phaseAfter
+returns-2 c = search (phase-at, eq-eqb)
 
 -- src/lib.rt:169:1
 returns-3 : tie.Need-returns-3
-returns-3 c = ?
+unfolding phaseAfter
+returns-3 c = search (phase-at, ne-eqb)
 
 -- src/lib.rt:169:1
 returns-4 : tie.Need-returns-4
-returns-4 c = ?
+returns-4 c = search (phase-at, decay-ends)
 
 -- src/lib.rt:169:1
 returns-5 : tie.Need-returns-5
-returns-5 c = ?
+returns-5 c = search (phase-at, decay-stays)
 
 -- src/lib.rt:169:1
 returns-6 : tie.Need-returns-6
-returns-6 c = ?
+unfolding phaseAfter
+returns-6 c = search phase-at
 
 -- src/lib.rt:169:1
 returns-7 : tie.Need-returns-7
-returns-7 c = ?
+unfolding phaseAfter
+returns-7 c = search (phase-at, eq-eqb)
 
 -- src/lib.rt:169:1
 returns-8 : tie.Need-returns-8
-returns-8 c = ?
+unfolding phaseAfter
+returns-8 c = search (phase-at, ne-eqb)
 
 -- src/lib.rt:169:1
 returns-9 : tie.Need-returns-9
-returns-9 c = ?
+unfolding phaseAfter
+returns-9 c = search phase-at
 
 pub phase-after-spec : {M : Type 1} → statement M
 phase-after-spec =

@@ -1,3 +1,8 @@
+use mathlib.Core.Path.{_≡_, _∙_}
+use Prim.Native.Nat.{_-_}
+use native.Mathlib.Omega.{arith}
+use lib.Dec.{lit<}
+use lib.Pow.{shl-exact}
 use borrow.Author.Needs.{needs}
 use Rattle.envelope.proofs.power.Statement.{statement}
 use Rattle.envelope.proofs.power.Tie as tie
@@ -14,11 +19,11 @@ shl-result c = search needs
 
 -- src/lib.rt:85:1
 returns : tie.Need-returns
-returns c = ?
+returns c = shl-exact {a = 1} 1 (c .before .args .a - c .before .args .b) 32 (lit< tt) (omega arith) ∙ omega arith
 
 -- src/lib.rt:85:1
 returns-2 : tie.Need-returns-2
-returns-2 c = ?
+returns-2 c = let e : c .before .args .a - c .before .args .b ≡ 0 = omega arith in rw e
 
 pub power-spec : {M : Type 1} → statement M
 power-spec = tie.close (tie.spec sub-result shl-result returns returns-2)

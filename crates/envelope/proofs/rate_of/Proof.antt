@@ -1,4 +1,6 @@
+use native.Mathlib.Nat.{div-one}
 use Rattle.envelope.specs.Adsr.{rateOf}
+use Rattle.envelope.proofs.Rates.{rate-at}
 use borrow.Author.Needs.{needs}
 use Rattle.envelope.proofs.rate_of.Statement.{statement}
 use Rattle.envelope.proofs.rate_of.Tie as tie
@@ -58,32 +60,32 @@ still-requires-2 c κs = search needs
 -- src/lib.rt:71:1
 returns : tie.Need-returns
 unfolding rateOf
-returns c = cc
+returns c = search rate-at
 
 -- src/lib.rt:71:1
 returns-2 : tie.Need-returns-2
 unfolding rateOf
-returns-2 c = cc
+returns-2 c = search rate-at
 
 -- src/lib.rt:71:1
 returns-3 : tie.Need-returns-3
 unfolding rateOf
-returns-3 c = cc
+returns-3 c = search rate-at
 
 -- src/lib.rt:71:1
 returns-4 : tie.Need-returns-4
 unfolding rateOf
-returns-4 c = cc
+returns-4 c = search rate-at
 
 -- src/lib.rt:71:1
 returns-5 : tie.Need-returns-5
 unfolding rateOf
-returns-5 c = cc
+returns-5 c = search (rate-at, div-one)
 
 -- src/lib.rt:71:1
 returns-6 : tie.Need-returns-6
 unfolding rateOf
-returns-6 c = cc
+returns-6 c = search rate-at
 
 pub rate-of-spec : {M : Type 1} → statement M
 rate-of-spec =

@@ -1,0 +1,26 @@
+-- The level, held to 0..7FFFh. Assumes nothing.
+use mathlib.Core.Path.{_≡_, refl, sym}
+use mathlib.Core.Bool.{true}
+use Prim.Native.Nat.{_≤_, min, zero-le}
+use native.Mathlib.Nat.{min-eq-left, min-eq-right, min-le-right}
+use native.Mathlib.Omega.{arith}
+use lib.IntN.{ℤ, pos, negsuc, natAbs}
+use lib.Signed.{ltZ}
+use Rattle.fixed.specs.Range.{In}
+use Rattle.fixed.proofs.Parts.{lt-yes}
+use Rattle.envelope.specs.Adsr.{clamped}
+
+pub clamped-low : (z : ℤ) → ltZ z (pos 0) ≡ true → 0 ≡ clamped z
+unfolding clamped
+clamped-low (pos n) t = let h = lt-yes (pos n) (pos 0) t in omega arith
+clamped-low (negsuc n) t = refl
+
+pub clamped-high : (z : ℤ) → ltZ (pos 0x7FFF) z ≡ true → 0x7FFF ≡ clamped z
+unfolding clamped
+clamped-high (pos n) t = let h = lt-yes (pos 0x7FFF) (pos n) t in omega arith
+clamped-high (negsuc n) t = let h = lt-yes (pos 0x7FFF) (negsuc n) t in omega arith
+
+pub clamped-id : (z : ℤ) → In 0 0x7FFF z → natAbs z ≡ clamped z
+unfolding clamped
+clamped-id (pos n) i = let t = i .top in omega arith
+clamped-id (negsuc n) i = let t = i .low in omega arith

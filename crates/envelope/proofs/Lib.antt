@@ -1,0 +1,4 @@
+pub mod Rates
+pub mod Phases
+pub mod Levels
+pub mod Times
