@@ -1,10 +1,33 @@
 -- The rate of a phase. Assumes nothing.
-use mathlib.Core.Path.{_≡_, sym, ap, _∙_}
-use Prim.Native.Nat.{ℕ}
+use mathlib.Core.Path.{_≡_}
+use mathlib.Core.Bool.{Bool, true, false, cond}
+use Prim.Native.Nat.{ℕ, _<_}
+use native.Mathlib.Omega.{arith}
+use Rattle.fixed.specs.Range.{In}
+use Rattle.fixed.specs.Bits.{bit, field}
 use Rattle.envelope.specs.declared.Phase.{Phase}
+use Rattle.envelope.specs.declared.Phase.the-variants.{Idle, Attack, Decay, Sustain, Release, Off}
 use Rattle.envelope.specs.declared.Rate.{Rate}
-use Rattle.envelope.specs.Adsr.{rateOf}
+use Rattle.envelope.specs.Adsr.{rise, fall, rateOf}
 
--- the rate of a phase that is known
+-- that of a phase p which is known to be q
 pub rate-at : {p q : Phase} {r : Rate} (low high : ℕ) → p ≡ q → r ≡ rateOf q low high → r ≡ rateOf p low high
 rate-at low high e h = rw e h
+
+-- what a rate made of registers keeps to
+pub record Made (r : Rate) : Type 0 where
+  pub shift : r .shift < 32
+  pub value : In 8 7 (r .value)
+
+value-in : (b : Bool) (n : ℕ) → In 8 7 (cond b (fall n) (rise n))
+value-in true n = record { top = omega arith; low = omega arith }
+value-in false n = record { top = omega arith; low = omega arith }
+
+pub made : (phase : Phase) (low high : ℕ) → Made (rateOf phase low high)
+unfolding rateOf
+made Idle low high = record { shift = omega arith; value = record { top = omega arith; low = omega arith } }
+made Attack low high = record { shift = omega arith; value = value-in false (field 8 2 low) }
+made Decay low high = record { shift = omega arith; value = value-in true 0 }
+made Sustain low high = record { shift = omega arith; value = value-in (bit 14 high) (field 6 2 high) }
+made Release low high = record { shift = omega arith; value = value-in true 0 }
+made Off low high = record { shift = omega arith; value = record { top = omega arith; low = omega arith } }
