@@ -3,3 +3,5 @@ pub mod Phases
 pub mod Levels
 pub mod Times
 pub mod Steps
+pub mod Ticks
+pub mod Range

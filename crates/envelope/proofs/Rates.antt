@@ -15,15 +15,15 @@ pub rate-at : {p q : Phase} {r : Rate} (low high : ℕ) → p ≡ q → r ≡ ra
 rate-at low high e h = rw e h
 
 -- what a rate made of registers keeps to
-pub record Made (r : Rate) : Type 0 where
-  pub shift : r .shift < 32
-  pub value : In 8 7 (r .value)
+record Made (r : Rate) : Type 0 where
+  shift : r .shift < 32
+  value : In 8 7 (r .value)
 
 value-in : (b : Bool) (n : ℕ) → In 8 7 (cond b (fall n) (rise n))
 value-in true n = record { top = omega arith; low = omega arith }
 value-in false n = record { top = omega arith; low = omega arith }
 
-pub made : (phase : Phase) (low high : ℕ) → Made (rateOf phase low high)
+made : (phase : Phase) (low high : ℕ) → Made (rateOf phase low high)
 unfolding rateOf
 made Idle low high = record { shift = omega arith; value = record { top = omega arith; low = omega arith } }
 made Attack low high = record { shift = omega arith; value = value-in false (field 8 2 low) }
@@ -31,3 +31,9 @@ made Decay low high = record { shift = omega arith; value = value-in true 0 }
 made Sustain low high = record { shift = omega arith; value = value-in (bit 14 high) (field 6 2 high) }
 made Release low high = record { shift = omega arith; value = value-in true 0 }
 made Off low high = record { shift = omega arith; value = record { top = omega arith; low = omega arith } }
+
+pub rate-shift : {r : Rate} (phase : Phase) (low high : ℕ) → r ≡ rateOf phase low high → r .shift < 32
+rate-shift phase low high e = rw e (made phase low high .shift)
+
+pub rate-value : {r : Rate} (phase : Phase) (low high : ℕ) → r ≡ rateOf phase low high → In 8 7 (r .value)
+rate-value phase low high e = rw e (made phase low high .value)

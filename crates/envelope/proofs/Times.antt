@@ -1,21 +1,40 @@
 -- The ticks from one step to the next. Assumes nothing.
-use mathlib.Core.Path.{_≡_, refl, ap, _∙_}
-use mathlib.Core.Bool.{true, false, not, _&&_}
+use mathlib.Core.Path.{_≡_}
+use mathlib.Core.Bool.{Bool, true, false, not, cond, _&&_}
 use Prim.Native.Nat.{ℕ, _-_, _*_, _^_, _≤_, _<_}
 use native.Mathlib.Omega.{arith}
 use lib.Dec.{ltb}
-use lib.Pow.{pow-mono}
+use lib.Pow.{pow-mono, pow-pos}
+use mir.Syntax.{w32}
+use mir.Val.{Fits}
 use Rattle.envelope.specs.declared.Rate.{Rate}
 use Rattle.envelope.specs.Adsr.{cyclesOf}
 
-pub power-top : (shift : ℕ) → shift < 32 → 2 ^ (shift - 11) ≤ 0x100000
-power-top shift h = pow-mono {j = 20} (omega arith)
+-- the test for four times the ticks
+abbrev slow : Rate → ℕ → Bool
+slow r level = r .exponential && (not (r .falling) && ltb 0x6000 level)
 
 module _ {n : ℕ} (r : Rate) (level : ℕ) (e : n ≡ 2 ^ (r .shift - 11)) where
-  pub cycles-four : (r .exponential && (not (r .falling) && ltb 0x6000 level)) ≡ true → n * 4 ≡ cyclesOf r level
+  pub cycles-four : slow r level ≡ true → n * 4 ≡ cyclesOf r level
   unfolding cyclesOf
   cycles-four t = rw (e, t)
 
-  pub cycles-one : (r .exponential && (not (r .falling) && ltb 0x6000 level)) ≡ false → n ≡ cyclesOf r level
+  pub cycles-one : slow r level ≡ false → n ≡ cyclesOf r level
   unfolding cyclesOf
   cycles-one t = rw (e, t) (omega arith)
+
+-- ---- from 1 to 400000h
+
+power-top : (shift : ℕ) → shift < 32 → 2 ^ (shift - 11) ≤ 0x100000
+power-top shift h = pow-mono {j = 20} (omega arith)
+
+pub four-fits : {n : ℕ} (r : Rate) → n ≡ 2 ^ (r .shift - 11) → r .shift < 32 → Fits w32 (n * 4)
+four-fits r e h = let t = power-top (r .shift) h in record { fits = omega arith }
+
+times-in : (b : Bool) {n : ℕ} → 1 ≤ n → n ≤ 0x100000 → (1 ≤ n * cond b 4 1) × (n * cond b 4 1 ≤ 0x400000)
+times-in true p q = omega arith
+times-in false p q = omega arith
+
+pub cycles-in : (r : Rate) (level : ℕ) → r .shift < 32 → (1 ≤ cyclesOf r level) × (cyclesOf r level ≤ 0x400000)
+unfolding cyclesOf
+cycles-in r level h = times-in (slow r level) (pow-pos (r .shift - 11)) (power-top (r .shift) h)

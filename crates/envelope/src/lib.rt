@@ -30,7 +30,7 @@ pub struct Rate {
     pub falling: bool,
 }
 
-// The value of a step, 0 to 3 of a register, before the shift.
+// The value of step n, for a rise and for a fall.
 fn value(n: u16, falling: bool) -> i32
     requires { ⌜ n < 4 ⌝ }
     ensures { λ r. ⌜ r ≡ cond falling (fall n) (rise n) ⌝ }
@@ -42,8 +42,8 @@ fn value(n: u16, falling: bool) -> i32
     }
 }
 
-// The rate of a phase with steps, of its fields.
-fn moving(shift: u16, n: u16, exponential: bool, falling: bool) -> Rate
+// The rate of a phase with steps.
+fn with_steps(shift: u16, n: u16, exponential: bool, falling: bool) -> Rate
     requires { ⌜ n < 4 ⌝ }
     ensures { λ r. ⌜ r ≡ record { shift = shift; value = cond falling (fall n) (rise n); exponential = exponential; falling = falling } ⌝ }
 {
@@ -55,8 +55,8 @@ fn moving(shift: u16, n: u16, exponential: bool, falling: bool) -> Rate
     }
 }
 
-// The rate of a phase without steps.
-fn still() -> Rate
+// The rate of a phase without.
+fn no_steps() -> Rate
     ensures { λ r. ⌜ r ≡ record { shift = 0; value = pos 0; exponential = false; falling = false } ⌝ }
 {
     Rate {
@@ -67,30 +67,36 @@ fn still() -> Rate
     }
 }
 
-// The rate of a phase, of the two halfwords of the registers.
+// The rate of a phase, out of the two ADSR halfwords.
 fn rate_of(phase: Phase, low: u16, high: u16) -> Rate
     ensures { λ r. ⌜ r ≡ rateOf phase low high ⌝ }
 {
     match phase {
-        Phase::Idle => still(),
-        Phase::Attack => moving(low / 0x400 % 32, low / 0x100 % 4, low / 0x8000 % 2 == 1, false),
-        Phase::Decay => moving(low / 0x10 % 16, 0, true, true),
-        Phase::Sustain => moving(high / 0x100 % 32, high / 0x40 % 4, high / 0x8000 % 2 == 1, high / 0x4000 % 2 == 1),
-        Phase::Release => moving(high % 32, 0, high / 0x20 % 2 == 1, true),
-        Phase::Off => still(),
+        Phase::Idle => no_steps(),
+        Phase::Attack => with_steps(
+            low / 0x400 % 32,
+            low / 0x100 % 4,
+            low / 0x8000 % 2 == 1,
+            false,
+        ),
+        Phase::Decay => with_steps(low / 0x10 % 16, 0, true, true),
+        Phase::Sustain => with_steps(
+            high / 0x100 % 32,
+            high / 0x40 % 4,
+            high / 0x8000 % 2 == 1,
+            high / 0x4000 % 2 == 1,
+        ),
+        Phase::Release => with_steps(high % 32, 0, high / 0x20 % 2 == 1, true),
+        Phase::Off => no_steps(),
     }
 }
 
-// 2 to the power of a - b, where b is no more than a, and else 1.
+// 2 to the power of a - b, and 1 where b is above a.
 fn power(a: u32, b: u32) -> u32
     requires { ⌜ a < 32 ⌝ }
     ensures { λ r. ⌜ r ≡ 2 ^ (a - b) ⌝ }
 {
-    if b < a {
-        1 << (a - b)
-    } else {
-        1
-    }
+    if b < a { 1 << (a - b) } else { 1 }
 }
 
 // The ticks from one step to the next.
@@ -106,7 +112,7 @@ fn cycles(r: Rate, level: u16) -> u32
     }
 }
 
-// How far the level moves in a step.
+// How far a step moves the level. The shift rounds down, as the paper asks; a division would not.
 fn step(r: Rate, level: u16) -> i32
     requires { ⌜ In 8 7 (r .value) ⌝ }
     ensures { λ z. ⌜ z ≡ stepOf r level ⌝ }
@@ -119,7 +125,7 @@ fn step(r: Rate, level: u16) -> i32
     }
 }
 
-// The level is held to 0..7FFFh.
+// A level, held to 0..7FFFh.
 fn clamp(x: i32) -> u16
     ensures { λ r. ⌜ r ≡ clamped x ⌝ }
 {
@@ -132,7 +138,7 @@ fn clamp(x: i32) -> u16
     x as u16
 }
 
-// The phases whose level moves.
+// Whether the phase has steps.
 fn is_active(phase: Phase) -> bool
     ensures { λ r. ⌜ r ≡ active phase ⌝ }
 {
@@ -146,18 +152,6 @@ fn is_active(phase: Phase) -> bool
     }
 }
 
-// A phase begins, or its next wait.
-pub fn enter(phase: Phase, level: u16, low: u16, high: u16) -> Envelope
-    ensures { λ r. ⌜ r ≡ enteredOf phase level low high ⌝ }
-{
-    if is_active(phase) {
-        let wait = cycles(rate_of(phase, low, high), level);
-        Envelope { phase, level, wait }
-    } else {
-        Envelope { phase, level, wait: 0 }
-    }
-}
-
 // The level at which Decay ends.
 fn sustain_level(low: u16) -> u16
     ensures { λ r. ⌜ r ≡ sustainLevel low ⌝ }
@@ -165,17 +159,40 @@ fn sustain_level(low: u16) -> u16
     (low % 16 + 1) * 0x800
 }
 
-// The phase after a step to the level.
+// One of two phases.
+fn pick(test: bool, yes: Phase, no: Phase) -> Phase
+    ensures { λ r. ⌜ r ≡ cond test yes no ⌝ }
+{
+    if test { yes } else { no }
+}
+
+// The phase after a step that led to the level.
 fn phase_after(phase: Phase, level: u16, low: u16) -> Phase
     ensures { λ r. ⌜ r ≡ phaseAfter phase level low ⌝ }
 {
     match phase {
         Phase::Idle => Phase::Idle,
-        Phase::Attack => if level == 0x7FFF { Phase::Decay } else { Phase::Attack },
-        Phase::Decay => if level <= sustain_level(low) { Phase::Sustain } else { Phase::Decay },
+        Phase::Attack => pick(level == 0x7FFF, Phase::Decay, Phase::Attack),
+        Phase::Decay => pick(level <= sustain_level(low), Phase::Sustain, Phase::Decay),
         Phase::Sustain => Phase::Sustain,
-        Phase::Release => if level == 0 { Phase::Off } else { Phase::Release },
+        Phase::Release => pick(level == 0, Phase::Off, Phase::Release),
         Phase::Off => Phase::Off,
+    }
+}
+
+// The envelope as a phase begins, and after each of its steps.
+pub fn enter(phase: Phase, level: u16, low: u16, high: u16) -> Envelope
+    ensures { λ r. ⌜ r ≡ enteredOf phase level low high ⌝ }
+{
+    if is_active(phase) {
+        let wait = cycles(rate_of(phase, low, high), level);
+        Envelope { phase, level, wait }
+    } else {
+        Envelope {
+            phase,
+            level,
+            wait: 0,
+        }
     }
 }
 
@@ -188,7 +205,7 @@ fn moved(phase: Phase, level: u16, low: u16, high: u16) -> Envelope
     enter(phase_after(phase, next, low), next, low, high)
 }
 
-// One tick.
+// One tick: most only wait, and look at no rate.
 pub fn tick(e: Envelope, low: u16, high: u16) -> Envelope
     ensures { λ r. ⌜ r ≡ tickedOf e low high ⌝ }
 {
@@ -199,7 +216,11 @@ pub fn tick(e: Envelope, low: u16, high: u16) -> Envelope
     let level = e.level;
     let wait = e.wait;
     if 1 < wait {
-        Envelope { phase, level, wait: wait - 1 }
+        Envelope {
+            phase,
+            level,
+            wait: wait - 1,
+        }
     } else {
         moved(phase, level, low, high)
     }

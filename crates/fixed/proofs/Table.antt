@@ -8,8 +8,10 @@ use native.Mathlib.Omega.{arith}
 use lib.Dec.{T, leb, leb→le, eqb, eqb→eq}
 use lib.ListN.{getD}
 use lib.IntN.{ℤ, pos, negsuc}
+use mir.Syntax.{Width}
+use mir.Val.{toZ, ofZ}
 use Rattle.fixed.specs.Range.{up, dn, In}
-use Rattle.fixed.proofs.Number.{both, both-l, both-r}
+use Rattle.fixed.proofs.Number.{both, both-l, both-r, Room, res-in, is, range}
 
 -- the test f passes at each number below n
 abbrev pub below : ℕ → (ℕ → Bool) → Bool
@@ -59,3 +61,8 @@ module _ (f : ℕ → ℤ) (l h : ℕ) (xs : List ℤ) (n : ℕ) (t : T (below n
 
   pub entry-in : (k : ℕ) → k < n → In l h (getD xs k (pos 0))
   entry-in k p = let x = getD xs k (pos 0) in inZ→in x (both-r (eqZ x (f k)) (inZ l h x) (below-at n (holds f l h xs) t k p))
+
+  -- as the code returns it
+  pub entry : (w : Width) (k : ℕ) → k < n → Room w l h
+      → (toZ w (ofZ w (getD xs k (pos 0))) ≡ f k) × In l h (toZ w (ofZ w (getD xs k (pos 0))))
+  entry w k p m = let r = res-in w (entry-is k p) (entry-in k p) m in (is r, range r)

@@ -1,45 +1,46 @@
+use native.Mathlib.Omega.{arith}
 use borrow.Author.Needs.{needs}
+use mir.Syntax.{w32}
+use Rattle.fixed.specs.Range.{In}
+use Rattle.fixed.proofs.Number.{Num, nat, res, add, need, hold, is}
+use Rattle.envelope.proofs.Rates.{rate-value}
+use Rattle.envelope.proofs.Steps.{step-in}
+use Rattle.envelope.proofs.Ticks.{moved-as}
 use Rattle.envelope.proofs.moved.Statement.{statement}
 use Rattle.envelope.proofs.moved.Tie as tie
-use Rattle.envelope.proofs.moved.Reads as reads
-use Rattle.envelope.proofs.moved.Lts as lts
-use Rattle.envelope.proofs.clamp.Reads as clamp-reads
-use Rattle.envelope.proofs.enter.Reads as enter-reads
-use Rattle.envelope.proofs.phase_after.Reads as phase-after-reads
-use Rattle.envelope.proofs.rate_of.Reads as rate-of-reads
-use Rattle.envelope.proofs.step.Reads as step-reads
 
--- src/lib.rt:186:9
+value : (c : tie.After-rate-of) → In 8 7 (c .rate-of .result .value)
+value c = search rate-value
+
+-- the level and the step
+abbrev sum : tie.After-step → Num
+sum c =
+    add (nat w32 {n = c .before .before .args .level} 0xFFFF (omega arith) tt)
+    (res w32 (c .step .ensures) (step-in _ _ (value (c .before)) (omega arith)) tt)
+
 rate-of-requires : tie.Need-rate-of-requires
 rate-of-requires c κs = search needs
 
--- src/lib.rt:187:22
 cast-clamp : tie.Need-cast-clamp
 cast-clamp c = search needs
 
--- src/lib.rt:187:37
 step-requires : tie.Need-step-requires
-step-requires c κs = ?
+step-requires c κs = value c
 
--- src/lib.rt:187:22
 add-clamp : tie.Need-add-clamp
-add-clamp c = ?
+add-clamp c = need (sum c) tt
 
--- src/lib.rt:187:9
 clamp-requires : tie.Need-clamp-requires
 clamp-requires c κs = search needs
 
--- src/lib.rt:188:11
 phase-after-requires : tie.Need-phase-after-requires
 phase-after-requires c κs = search needs
 
--- src/lib.rt:188:5
 enter-requires : tie.Need-enter-requires
 enter-requires c κs = search needs
 
--- src/lib.rt:183:1
 returns : tie.Need-returns
-returns c = ?
+returns c = let s = is (hold w32 (sum (c .before .before .before)) tt) in search moved-as
 
 pub moved-spec : {M : Type 1} → statement M
 moved-spec =

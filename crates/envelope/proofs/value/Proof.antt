@@ -1,7 +1,7 @@
 use mathlib.Core.Path.{_≡_, _∙_}
 use native.Mathlib.Omega.{arith}
 use borrow.Author.Needs.{needs}
-use lib.IntN.{ℤ, pos}
+use lib.IntN.{pos}
 use mir.Syntax.{w32}
 use Rattle.fixed.proofs.Parts.{sub-is, eq-parts}
 use Rattle.fixed.proofs.Number.{Num, nat, lit, sub, hold, need, is}
