@@ -20,17 +20,17 @@ record Made (r : Rate) : Type 0 where
   value : In 8 7 (r .value)
 
 value-in : (b : Bool) (n : ℕ) → In 8 7 (cond b (fall n) (rise n))
-value-in true n = record { top = omega arith; low = omega arith }
-value-in false n = record { top = omega arith; low = omega arith }
+value-in true n = omega arith
+value-in false n = omega arith
 
 made : (phase : Phase) (low high : ℕ) → Made (rateOf phase low high)
 unfolding rateOf
-made Idle low high = record { shift = omega arith; value = record { top = omega arith; low = omega arith } }
-made Attack low high = record { shift = omega arith; value = value-in false (field 8 2 low) }
-made Decay low high = record { shift = omega arith; value = value-in true 0 }
+made Idle low high = omega arith
+made Attack low high = omega arith
+made Decay low high = omega arith
 made Sustain low high = record { shift = omega arith; value = value-in (bit 14 high) (field 6 2 high) }
-made Release low high = record { shift = omega arith; value = value-in true 0 }
-made Off low high = record { shift = omega arith; value = record { top = omega arith; low = omega arith } }
+made Release low high = omega arith
+made Off low high = omega arith
 
 pub rate-shift : {r : Rate} (phase : Phase) (low high : ℕ) → r ≡ rateOf phase low high → r .shift < 32
 rate-shift phase low high e = rw e (made phase low high .shift)

@@ -18,7 +18,7 @@ power-in shift = record { top = pow-mono {j = 11} (omega arith); low = zero-le }
 abbrev pub fullOf : Rate → ℤ
 fullOf r = r .value *ℤ pos (2 ^ (11 - r .shift))
 
-pub full-in : (r : Rate) → In 8 7 (r .value) → In 0x4000 0x3800 (fullOf r)
+full-in : (r : Rate) → In 8 7 (r .value) → In 0x4000 0x3800 (fullOf r)
 full-in r i = mul-in i (power-in (r .shift))
 
 module _ (r : Rate) (level : ℕ) where

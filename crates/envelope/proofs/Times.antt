@@ -23,13 +23,10 @@ module _ {n : ℕ} (r : Rate) (level : ℕ) (e : n ≡ 2 ^ (r .shift - 11)) wher
   unfolding cyclesOf
   cycles-one t = rw (e, t) (omega arith)
 
+pub four-fits : {n : ℕ} (a b : ℕ) → n ≡ 2 ^ (a - b) → a < 32 → 2 ≤ b → Fits w32 (n * 4)
+four-fits a b e h l = let t : 2 ^ (a - b) ≤ 2 ^ 29 = pow-mono {j = 29} (omega arith) in record { fits = omega arith }
+
 -- ---- from 1 to 400000h
-
-power-top : (shift : ℕ) → shift < 32 → 2 ^ (shift - 11) ≤ 0x100000
-power-top shift h = pow-mono {j = 20} (omega arith)
-
-pub four-fits : {n : ℕ} (r : Rate) → n ≡ 2 ^ (r .shift - 11) → r .shift < 32 → Fits w32 (n * 4)
-four-fits r e h = let t = power-top (r .shift) h in record { fits = omega arith }
 
 times-in : (b : Bool) {n : ℕ} → 1 ≤ n → n ≤ 0x100000 → (1 ≤ n * cond b 4 1) × (n * cond b 4 1 ≤ 0x400000)
 times-in true p q = omega arith
@@ -37,4 +34,4 @@ times-in false p q = omega arith
 
 pub cycles-in : (r : Rate) (level : ℕ) → r .shift < 32 → (1 ≤ cyclesOf r level) × (cyclesOf r level ≤ 0x400000)
 unfolding cyclesOf
-cycles-in r level h = times-in (slow r level) (pow-pos (r .shift - 11)) (power-top (r .shift) h)
+cycles-in r level h = times-in (slow r level) (pow-pos (r .shift - 11)) (pow-mono {j = 20} (omega arith))

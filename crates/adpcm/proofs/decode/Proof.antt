@@ -12,7 +12,7 @@ use Rattle.adpcm.proofs.decode.Statement.{statement}
 use Rattle.adpcm.proofs.decode.Tie as tie
 
 abbrev Inv-loop : tie.InvT-loop
-Inv-loop old older bytes h out₀ a₀ b₀ i₀ out a b i =     (i ≤ 28) × (length out ≡ 28) × Part h bytes (blockOf bytes (toZ w16 old) (toZ w16 older)) out (toZ w16 a) (toZ w16 b) i
+Inv-loop old older bytes h out₀ a₀ b₀ i₀ out a b i = (i ≤ 28) × (length out ≡ 28) × Part h bytes (blockOf bytes (toZ w16 old) (toZ w16 older)) out (toZ w16 a) (toZ w16 b) i
 
 abbrev μ-loop : tie.MeasureT-loop
 μ-loop old older bytes h out₀ a₀ b₀ i₀ out a b i = 28 - i

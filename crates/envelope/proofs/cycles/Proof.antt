@@ -7,7 +7,7 @@ power-requires : tie.Need-power-requires
 power-requires c κs = search needs
 
 mul-result : tie.Need-mul-result
-mul-result c = search four-fits
+mul-result c = search (four-fits, needs)
 
 returns : tie.Need-returns
 returns c = search cycles-four
