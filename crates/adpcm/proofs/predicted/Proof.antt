@@ -24,6 +24,10 @@ both c = add (hold w32 (first (c .before)) tt) (hold w32 (second c) tt)
 abbrev sum : tie.After-k1 → Num
 sum c = add (hold w32 (both c) tt) (lit (pos 32))
 
+returns : tie.Need-returns
+unfolding predictedOf
+returns c = let r = hold w32 (shr 64 tt (hold w32 (sum c) tt)) tt in (is r, range r)
+
 cast-result : tie.Need-cast-result
 cast-result c = need (old c) tt
 
@@ -47,10 +51,6 @@ add-result c = need (both c) tt
 
 add-result-2 : tie.Need-add-result-2
 add-result-2 c = need (sum c) tt
-
-returns : tie.Need-returns
-unfolding predictedOf
-returns c = let r = hold w32 (shr 64 tt (hold w32 (sum c) tt)) tt in (is r, range r)
 
 pub predicted-spec : {M : Type 1} → statement M
 predicted-spec =

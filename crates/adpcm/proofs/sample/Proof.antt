@@ -31,6 +31,10 @@ prediction c =
 abbrev total : tie.After-predicted → Num
 total c = add (new c) (prediction c)
 
+returns : tie.Need-returns
+unfolding sampleOf
+returns c = passed w16 (c .saturate .ok) (c .saturate .ensures ∙ ap saturated (is (hold w32 (total (c .before)) tt)))
+
 mul-to-signed : tie.Need-mul-to-signed
 mul-to-signed c = search needs
 
@@ -54,10 +58,6 @@ add-saturate c = need (total c) tt
 
 saturate-requires : tie.Need-saturate-requires
 saturate-requires c κs = search needs
-
-returns : tie.Need-returns
-unfolding sampleOf
-returns c = passed w16 (c .saturate .ok) (c .saturate .ensures ∙ ap saturated (is (hold w32 (total (c .before)) tt)))
 
 pub sample-spec : {M : Type 1} → statement M
 sample-spec =

@@ -21,6 +21,10 @@ pitch c = res w16 (c .to-signed .ensures) (signed-in 16 0x8000 (c .before .args 
 abbrev step : tie.After-product → Num
 step c = prod (hold w32 (factor (c .before .before)) tt) (pitch (c .before)) (c .product .ensures) tt
 
+returns : tie.Need-returns
+unfolding modulatedOf
+returns c = c .low16 .ensures ∙ ap (bitsOf 16) (is (step (c .before)))
+
 cast-factor : tie.Need-cast-factor
 cast-factor c = need (amplitude c) tt
 
@@ -35,10 +39,6 @@ product-requires c κs = wide (range (hold w32 (factor (c .before)) tt)) tt
 
 low16-requires : tie.Need-low16-requires
 low16-requires c κs = wide (range (step c)) tt
-
-returns : tie.Need-returns
-unfolding modulatedOf
-returns c = c .low16 .ensures ∙ ap (bitsOf 16) (is (step (c .before)))
 
 pub modulate-spec : {M : Type 1} → statement M
 modulate-spec =
