@@ -8,15 +8,22 @@ use Rattle.fixed.specs.Range.{In}
 use Rattle.fixed.proofs.Parts.{lt-yes}
 use Rattle.envelope.specs.Adsr.{clamped}
 
-pub clamped-low : (z : ℤ) → ltZ z (pos 0) ≡ true → 0 ≡ clamped z
+-- of a number a that is z
+pub clamped-low : {a z : ℤ} → ltZ a (pos 0) ≡ true → a ≡ z → 0 ≡ clamped z
 unfolding clamped
-clamped-low (pos n) t = let h = lt-yes (pos n) (pos 0) t in omega arith
-clamped-low (negsuc n) t = refl
+clamped-low {a} t e = rw (← e) (by a t)
+  where
+    by : (a : ℤ) → ltZ a (pos 0) ≡ true → 0 ≡ clamped a
+    by (pos n) t = let h = lt-yes (pos n) (pos 0) t in omega arith
+    by (negsuc n) t = refl
 
-pub clamped-high : (z : ℤ) → ltZ (pos 0x7FFF) z ≡ true → 0x7FFF ≡ clamped z
+pub clamped-high : {a z : ℤ} → ltZ (pos 0x7FFF) a ≡ true → a ≡ z → 0x7FFF ≡ clamped z
 unfolding clamped
-clamped-high (pos n) t = let h = lt-yes (pos 0x7FFF) (pos n) t in omega arith
-clamped-high (negsuc n) t = let h = lt-yes (pos 0x7FFF) (negsuc n) t in omega arith
+clamped-high {a} t e = rw (← e) (by a t)
+  where
+    by : (a : ℤ) → ltZ (pos 0x7FFF) a ≡ true → 0x7FFF ≡ clamped a
+    by (pos n) t = let h = lt-yes (pos 0x7FFF) (pos n) t in omega arith
+    by (negsuc n) t = let h = lt-yes (pos 0x7FFF) (negsuc n) t in omega arith
 
 pub clamped-id : (z : ℤ) → In 0 0x7FFF z → natAbs z ≡ clamped z
 unfolding clamped

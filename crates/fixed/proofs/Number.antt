@@ -3,19 +3,19 @@
 -- width w and read back. With numerals for the ranges they compute, so that each fit is `tt`. Assumes nothing.
 use mathlib.Core.Path.{_≡_, refl, sym, ap₂, _∙_, subst}
 use mathlib.Core.Bool.{Bool, true, false}
-use Prim.Native.Nat.{ℕ, zero, suc, _+_, _-_, _*_, _/_, _^_, _≤_, _<_, max, zero-le, suc-le-suc}
+use Prim.Native.Nat.{ℕ, suc, _+_, _-_, _*_, _/_, _^_, _≤_, _<_, max, zero-le, suc-le-suc}
 use native.Mathlib.Nat.{mul-le-mul, le-max-left, le-max-right, le-trans, le-refl, lt-of-le-of-lt, add-div-right, mul-le-mul-right, div-le-self}
 use native.Mathlib.Omega.{arith}
 use lib.Ieee.Nearest.{div-mono}
 use lib.IntN.{ℤ, pos, negsuc, natAbs, _+ℤ_, _-ℤ_, _*ℤ_}
-use lib.Signed.{mag, nonNeg, shrZ}
+use lib.Signed.{mag, ltZ, nonNeg, shrZ}
 use lib.Dec.{T, leb, ltb, leb→le, ltb→lt}
 use mir.Syntax.{Width, w32}
 use mir.Val.{Fits, SFits, toZ, ofZ, hbits, bits}
 use mir.Facts.{toZ-ofZ, toZ-pos}
 use Rattle.fixed.specs.Range.{up, dn, In}
 use Rattle.fixed.specs.Arithmetic.{productOf}
-use Rattle.fixed.proofs.Parts.{Is, add-is, sub-parts, neg-parts, of-fits, to-fits}
+use Rattle.fixed.proofs.Parts.{add-is, sub-parts, neg-parts, between, of-fits, to-fits}
 
 -- ---- two tests at once
 
@@ -144,6 +144,10 @@ arg-in {w} {z} {l} {h} f i = record { code = toZ w (ofZ w z); val = z; l = l; h 
 
 abbrev pub arg : {w : Width} {z : ℤ} → SFits w z → Num
 arg {w} {z} f = arg-in f (of-fits w z f)
+
+-- a parameter past the tests of a clamp
+abbrev pub tested : {w : Width} {z : ℤ} (lo : ℤ) (h : ℕ) → SFits w z → ltZ (toZ w (ofZ w z)) lo ≡ false → ltZ (pos h) (toZ w (ofZ w z)) ≡ false → Num
+tested {w} {z} lo h f p q = arg-in f (subst (λ (y : ℤ). In (dn lo) h y) (toZ-ofZ f) (between lo h (toZ w (ofZ w z)) p q))
 
 -- a call's result r, of which the callee ensures that it is z: with the range of z, with that of r, and with its type's alone
 abbrev pub res : (w : Width) {r z : ℤ} {l h : ℕ} → r ≡ z → In l h z → Room w l h → Num

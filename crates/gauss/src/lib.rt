@@ -1,7 +1,6 @@
 // Gaussian interpolation between four consecutive samples.
 ghost use mathlib.Core.Path.{_≡_};
 ghost use Prim.Native.Nat.{_<_};
-ghost use lib.IntN.{ℤ};
 ghost use Rattle.fixed.specs.Range.{In};
 ghost use Rattle.gauss.specs.Gauss.{factorAt, indexOf, tapOf, interpolatedOf};
 

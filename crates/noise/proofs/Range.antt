@@ -4,7 +4,7 @@ use Prim.Native.Nat.{ℕ, _-_, _≤_}
 use native.Mathlib.Decide.{decLe, ℕ-discrete}
 use native.Mathlib.Omega.{arith}
 use Rattle.fixed.specs.Bits.{field}
-use Rattle.noise.specs.Noise.{InRange, shiftedOf, reloadOf, stepOf, tickedOf, writtenOf}
+use Rattle.noise.specs.Noise.{InRange, reloadOf, stepOf, tickedOf, writtenOf}
 use Rattle.noise.specs.declared.Noise.{Noise}
 use Rattle.noise.proofs.Laws.{reload-most, ticked-waits, ticked-once, ticked-twice, written-same, written-other}
 

@@ -1,6 +1,5 @@
 // The pitch counter: how fast a voice moves through its samples.
 ghost use mathlib.Core.Path.{_≡_};
-ghost use Prim.Native.Nat.{_≤_};
 ghost use Rattle.pitch.specs.Pitch.{modulatedOf, limited, stepOf, movedOf};
 
 // The counter after a step, and the samples that it moved.

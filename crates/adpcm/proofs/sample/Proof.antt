@@ -1,4 +1,4 @@
-use mathlib.Core.Path.{refl, _∙_, ap, ap₂}
+use mathlib.Core.Path.{refl, _∙_, ap}
 use Prim.Native.Nat.{_*_, _^_}
 use native.Mathlib.Omega.{arith}
 use borrow.Author.Needs.{needs}
@@ -7,7 +7,7 @@ use mir.Facts.{toZ-ofZ}
 use Rattle.fixed.specs.Arithmetic.{saturated}
 use Rattle.fixed.proofs.Number.{Num, res, res-in, said, need, is, hold, add, shr-any, passed}
 use Rattle.fixed.proofs.TwosComplement.{signed-in}
-use Rattle.adpcm.specs.Adpcm.{sampleOf, predictedOf}
+use Rattle.adpcm.specs.Adpcm.{sampleOf}
 use Rattle.adpcm.proofs.Laws.{nibble-placed}
 use Rattle.adpcm.proofs.sample.Statement.{statement}
 use Rattle.adpcm.proofs.sample.Tie as tie

@@ -1,27 +1,19 @@
 use mathlib.Core.Path.{_∙_, ap}
-use native.Mathlib.Omega.{arith}
 use lib.IntN.{pos, natAbs}
 use mir.Facts.{toZ-ofZ}
-use Rattle.fixed.proofs.Parts.{lt-no, within}
-use Rattle.fixed.proofs.Number.{Num, arg, sharp, need-u, is}
+use Rattle.fixed.proofs.Number.{Num, tested, need-u, is}
 use Rattle.envelope.proofs.Levels.{clamped-low, clamped-high, clamped-id}
 use Rattle.envelope.proofs.clamp.Statement.{statement}
 use Rattle.envelope.proofs.clamp.Tie as tie
 
 returns : tie.Need-returns
-returns c = clamped-low (c .before .args .x) (rw (toZ-ofZ (c .before .fits .x)) at (c .if1 .taken))
+returns c = clamped-low (c .if1 .taken) (toZ-ofZ (c .before .fits .x))
 
 returns-2 : tie.Need-returns-2
-returns-2 c = clamped-high (c .before .before .args .x) (rw (toZ-ofZ (c .before .before .fits .x)) at (c .if2 .taken))
+returns-2 c = clamped-high (c .if2 .taken) (toZ-ofZ (c .before .before .fits .x))
 
--- x, past both tests
 abbrev x : tie.Else2 → Num
-x c =
-    let z = c .before .before .args .x in
-    let f = c .before .before .fits .x in
-    let low = lt-no z (pos 0) (rw (toZ-ofZ f) at (c .before .if1 .left)) in
-    let high = lt-no (pos 0x7FFF) z (rw (toZ-ofZ f) at (c .if2 .left)) in
-    sharp (arg f) (within z {l = 0} {h = 0x7FFF} (omega arith) (omega arith))
+x c = tested (pos 0) 0x7FFF (c .before .before .fits .x) (c .before .if1 .left) (c .if2 .left)
 
 cast-result : tie.Need-cast-result
 cast-result c = need-u (x c) tt

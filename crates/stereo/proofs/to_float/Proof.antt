@@ -1,6 +1,4 @@
-use mathlib.Core.Path.{_∙_, ap}
 use borrow.Author.Needs.{needs}
-use lib.Ieee.{ofInt, binary32, div, ofBits}
 use mir.Syntax.{w16}
 use mir.Facts.{toZ-ofZ}
 use Rattle.fixed.proofs.Parts.{fits-abs}

@@ -1,7 +1,5 @@
-use mathlib.Core.Path.{_≡_, refl, _∙_, ap}
 use borrow.Author.Needs.{needs}
 use mir.Facts.{toZ-ofZ}
-use Rattle.stereo.specs.Float.{floatOf}
 use Rattle.stereo.proofs.to_floats.Statement.{statement}
 use Rattle.stereo.proofs.to_floats.Tie as tie
 
