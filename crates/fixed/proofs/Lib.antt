@@ -3,3 +3,4 @@ pub mod Number
 pub mod TwosComplement
 pub mod Table
 pub mod Saturation
+pub mod Bits

@@ -1,0 +1,4 @@
+pub mod Addresses
+pub mod Halfwords
+pub mod Programs
+pub mod TwoRuns

@@ -1,0 +1,4 @@
+pub mod Address
+pub mod Memory
+pub mod Program
+pub mod TwoRuns
