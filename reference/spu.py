@@ -224,8 +224,8 @@ class Voice:
             return 0                                # "Idle: amplitude 0, no reads."
         if not self.loaded:
             self.load(memory)
-        if noise is None:                           # "the sample at the index and the three
-            four = self.samples[self.index:self.index + 4]                  # before it"
+        if noise is None:
+            four = self.samples[self.index:self.index + 4]      # three before, and the sample
             heard = interpolate(*four, self.counter >> 4)
         else:
             heard = s16(noise)                      # "If NON is set, use noise as signed."
@@ -387,8 +387,8 @@ class Spu(SoundRam):
             self.voices[offset // 16].repeat = value
         elif offset in (0x188, 0x18A, 0x18C, 0x18E):
             self.key_write(offset, value)
-        elif offset == 0x1A2:                       # "also moves the reverb place or
-            self.reverb_place = unit_address(value, self.L)     # transfer address there"
+        elif offset == 0x1A2:           # "also moves the reverb place or transfer address there"
+            self.reverb_place = unit_address(value, self.L)
         elif offset == 0x1A6:
             self.transfer_address = unit_address(value, self.L)
         elif offset == 0x1AA:
@@ -551,8 +551,8 @@ class Spu(SoundRam):
         base = unit_address(reg[0x1A2], L)
         v_out = s16(reg[0x184 + 2 * side])
         writes = reg[0x1AA] & 0x80 != 0     # "SPUCNT bit 7 clear: nothing is written."
-        counted = writes or v_out != 0      # "unless bit 7 is clear and that side's output
-                                            # volume is 0"
+        counted = writes or v_out != 0      # else "bit 7 is clear and ... output volume is 0"
+
         def v(offset):                      # a volume
             return s16(reg[offset])
 

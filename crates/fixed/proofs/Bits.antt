@@ -27,13 +27,13 @@ above b k d e =
 -- each other bit stays
 pub bit-other : (b k j : ℕ) → (j ≡ k → ⊥) → field k 1 b ≡ 0 → field j 1 (b + 2 ^ k) ≡ field j 1 b
 bit-other b k j ne e =
-    elim (decLt j k)
-    [ yes h ↦
-        let p : k ≡ j + ((k - j - 1) + 1) = omega arith in
-        ap (λ (x : ℕ). field j 1 (b + 2 ^ x)) p ∙ below b j (k - j - 1)
-    | no h ↦
-        let p : j ≡ k + (1 + (j - k - 1)) = omega arith in
-        ap (λ (x : ℕ). field x 1 (b + 2 ^ k)) p ∙ above b k (j - k - 1) e ∙ ap (λ (x : ℕ). field x 1 b) (sym p)
+    elim (decLt j k) [
+      | yes h ↦
+          let p : k ≡ j + ((k - j - 1) + 1) = omega arith in
+          ap (λ (x : ℕ). field j 1 (b + 2 ^ x)) p ∙ below b j (k - j - 1)
+      | no h ↦
+          let p : j ≡ k + (1 + (j - k - 1)) = omega arith in
+          ap (λ (x : ℕ). field x 1 (b + 2 ^ k)) p ∙ above b k (j - k - 1) e ∙ ap (λ (x : ℕ). field x 1 b) (sym p)
     ]
 
 -- the bit is set

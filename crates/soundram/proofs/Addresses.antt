@@ -1,8 +1,9 @@
 -- Addresses, as the code finds them. Assumes nothing.
 use mathlib.Core.Path.{_≡_, sym, ap}
-use Prim.Native.Nat.{ℕ, _*_, _%_, _<_, _≤_}
-use native.Mathlib.Nat.{mod-eq-of-lt, mod-lt}
-use Rattle.soundram.specs.Address.{addressOf, unitOf}
+use Prim.Native.Nat.{ℕ, _+_, _-_, _*_, _%_, _≤_, _<_}
+use native.Mathlib.Nat.{mod-eq-of-lt, mod-eq-sub-mod, mod-lt}
+use native.Mathlib.Omega.{arith}
+use Rattle.soundram.specs.Address.{addressOf, forwardOf}
 use Rattle.soundram.specs.declared.UnitAddress.{UnitAddress}
 use Rattle.soundram.specs.declared.ByteAddress.{ByteAddress}
 
@@ -13,3 +14,21 @@ address-small size u h = rw (mod-eq-of-lt h)
 pub address-below : (size : ℕ) (u : UnitAddress) → 0 < size → addressOf size u .0 < size
 unfolding addressOf
 address-below size u h = mod-lt (u .0 * 8) h
+
+pub forward-small : (size : ℕ) (a : ByteAddress) (k : ℕ) → a .0 + k < size → record { 0 = a .0 + k } ≡ forwardOf size a k
+unfolding forwardOf
+forward-small size a k h = rw (mod-eq-of-lt h)
+
+pub forward-wraps : (size : ℕ) (a : ByteAddress) (k : ℕ) → size ≤ a .0 + k → a .0 < size → k ≤ size → record { 0 = a .0 + k - size } ≡ forwardOf size a k
+unfolding forwardOf
+forward-wraps size a k h p q = rw (mod-eq-sub-mod h, mod-eq-of-lt (less h p q))
+  where
+    less : size ≤ a .0 + k → a .0 < size → k ≤ size → a .0 + k - size < size
+    less h p q = omega arith
+
+pub forward-below : (size : ℕ) (a b : ByteAddress) (k : ℕ) → b ≡ forwardOf size a k → a .0 < size → b .0 < size
+unfolding forwardOf
+forward-below size a b k e p = rw e (mod-lt (a .0 + k) (some p))
+  where
+    some : a .0 < size → 0 < size
+    some p = omega arith

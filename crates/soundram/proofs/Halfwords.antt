@@ -38,10 +38,10 @@ agree-same r s h v e =
     let ne : h * 2 ≡ h * 2 + 1 → ⊥ = λ p. omega arith in
     record {
       low =
-        getD-set-other (set r (h * 2) (v % 256)) (h * 2 + 1) (h * 2) (v / 256) 0 ne
-        ∙ stored r s (h * 2) (v % 256) e
-        ∙ sym (getD-set-other (set s (h * 2) (v % 256)) (h * 2 + 1) (h * 2) (v / 256) 0 ne);
-      high = stored (set r (h * 2) (v % 256)) (set s (h * 2) (v % 256)) (h * 2 + 1) (v / 256) (simp length-set e)
+          getD-set-other (set r (h * 2) (v % 256)) (h * 2 + 1) (h * 2) (v / 256) 0 ne
+          ∙ stored r s (h * 2) (v % 256) e
+          ∙ sym (getD-set-other (set s (h * 2) (v % 256)) (h * 2 + 1) (h * 2) (v / 256) 0 ne);
+      high = stored (set r (h * 2) (v % 256)) (set s (h * 2) (v % 256)) (h * 2 + 1) (v / 256) (simp length-set e);
     }
 
 -- a byte of another halfword stays
@@ -54,7 +54,7 @@ pub agree-other : (r s : List ℕ) (h v x : ℕ) → (x ≡ h → ⊥) → Agree
 agree-other r s h v x ne a =
     record {
       low = kept r h v (x * 2) (λ p. ne (omega arith)) (λ p. omega arith) ∙ a .low ∙ sym (kept s h v (x * 2) (λ p. ne (omega arith)) (λ p. omega arith));
-      high = kept r h v (x * 2 + 1) (λ p. omega arith) (λ p. ne (omega arith)) ∙ a .high ∙ sym (kept s h v (x * 2 + 1) (λ p. omega arith) (λ p. ne (omega arith)))
+      high = kept r h v (x * 2 + 1) (λ p. omega arith) (λ p. ne (omega arith)) ∙ a .high ∙ sym (kept s h v (x * 2 + 1) (λ p. omega arith) (λ p. ne (omega arith)));
     }
 
 -- ---- marks
@@ -87,17 +87,17 @@ mark-length marks h = by (marked marks h)
 other-bit : (marks : List ℕ) (h x : ℕ) → (x ≡ h → ⊥) → field (h % 8) 1 (getD marks (h / 8) 0) ≡ 0
     → field (x % 8) 1 (getD (set marks (h / 8) (getD marks (h / 8) 0 + 2 ^ (h % 8))) (x / 8) 0) ≡ field (x % 8) 1 (getD marks (x / 8) 0)
 other-bit marks h x ne e =
-    elim (ℕ-discrete (x / 8) (h / 8))
-    [ yes p ↦
-        elim (decLt (h / 8) (length marks))
-        [ yes w ↦
-            ap (λ (i : ℕ). field (x % 8) 1 (getD (set marks (h / 8) (getD marks (h / 8) 0 + 2 ^ (h % 8))) i 0)) p
-            ∙ ap (λ (b : ℕ). field (x % 8) 1 b) (getD-set-same marks (h / 8) _ 0 w)
-            ∙ bit-other (getD marks (h / 8) 0) (h % 8) (x % 8) (λ q. ne (omega arith)) e
-            ∙ ap (λ (i : ℕ). field (x % 8) 1 (getD marks i 0)) (sym p)
-        | no w ↦ ap (λ (l : List ℕ). field (x % 8) 1 (getD l (x / 8) 0)) (set-out marks (h / 8) _ (omega arith))
-        ]
-    | no q ↦ ap (λ (b : ℕ). field (x % 8) 1 b) (getD-set-other marks (h / 8) (x / 8) _ 0 q)
+    elim (ℕ-discrete (x / 8) (h / 8)) [
+      | yes p ↦
+          elim (decLt (h / 8) (length marks)) [
+            | yes w ↦
+                ap (λ (i : ℕ). field (x % 8) 1 (getD (set marks (h / 8) (getD marks (h / 8) 0 + 2 ^ (h % 8))) i 0)) p
+                ∙ ap (λ (b : ℕ). field (x % 8) 1 b) (getD-set-same marks (h / 8) _ 0 w)
+                ∙ bit-other (getD marks (h / 8) 0) (h % 8) (x % 8) (λ q. ne (omega arith)) e
+                ∙ ap (λ (i : ℕ). field (x % 8) 1 (getD marks i 0)) (sym p)
+            | no w ↦ ap (λ (l : List ℕ). field (x % 8) 1 (getD l (x / 8) 0)) (set-out marks (h / 8) _ (omega arith))
+          ]
+      | no q ↦ ap (λ (b : ℕ). field (x % 8) 1 b) (getD-set-other marks (h / 8) (x / 8) _ 0 q)
     ]
 
 pub mark-other : (marks : List ℕ) (h x : ℕ) → (x ≡ h → ⊥) → marked (mark marks h) x ≡ marked marks x

@@ -1,4 +1,5 @@
 pub mod Addresses
 pub mod Halfwords
 pub mod Programs
+pub mod Blocks
 pub mod TwoRuns

@@ -23,11 +23,11 @@ agree-write h v {m} {n} g =
       watch = ap (writing h) (g .watch);
       len = putHalf-length (m .ram) h v ∙ g .len ∙ sym (putHalf-length (n .ram) h v);
       ram =
-        λ x e.
-        elim (ℕ-discrete x h)
-        [ yes p ↦ subst (λ (y : ℕ). AgreeAt (putHalf (m .ram) h v) (putHalf (n .ram) h v) y) (sym p) (agree-same (m .ram) (n .ram) h v (g .len))
-        | no ne ↦ agree-other (m .ram) (n .ram) h v x ne (g .ram x (sym (mark-other (m .marks) h x ne) ∙ e))
-        ]
+          λ x e.
+          elim (ℕ-discrete x h) [
+            | yes p ↦ subst (λ (y : ℕ). AgreeAt (putHalf (m .ram) h v) (putHalf (n .ram) h v) y) (sym p) (agree-same (m .ram) (n .ram) h v (g .len))
+            | no ne ↦ agree-other (m .ram) (n .ram) h v x ne (g .ram x (sym (mark-other (m .marks) h x ne) ∙ e))
+          ];
     }
 
 -- a counted read of an unmarked halfword

@@ -1,7 +1,7 @@
 -- Addresses, and what a caller lends. Assumes nothing.
 use mathlib.Core.Path.{_≡_}
 use mathlib.Core.List.{List}
-use Prim.Native.Nat.{ℕ, _*_, _/_, _%_, _≤_, _<_}
+use Prim.Native.Nat.{ℕ, _+_, _*_, _/_, _%_, _≤_, _<_}
 use lib.ListN.{length}
 use Rattle.soundram.specs.declared.UnitAddress.{UnitAddress}
 use Rattle.soundram.specs.declared.ByteAddress.{ByteAddress}
@@ -13,6 +13,10 @@ addressOf size u = record { 0 = u .0 * 8 % size }
 -- the unit that a byte address lies in
 unfoldable pub unitOf : ByteAddress → UnitAddress
 unitOf a = record { 0 = a .0 / 8 }
+
+-- k bytes further on, wrapping at L
+unfoldable pub forwardOf : ℕ → ByteAddress → ℕ → ByteAddress
+forwardOf size a k = record { 0 = (a .0 + k) % size }
 
 -- "A halfword lies at an even address": halfword h lies at 2h
 abbrev pub halfwordOf : ByteAddress → ℕ

@@ -1,9 +1,11 @@
 -- What a call does to sound RAM, as a program of reads and writes. Assumes nothing.
 use mathlib.Core.Path.{_≡_}
 use mathlib.Core.Bool.{Bool, true, false, _||_, _&&_, not}
-use mathlib.Core.List.{List, [], _∷_}
-use Prim.Native.Nat.{ℕ, zero, suc}
+use mathlib.Core.List.{List, [], _∷_, _++_}
+use Prim.Native.Nat.{ℕ, zero, suc, _*_, _/_, _%_}
 use Rattle.soundram.specs.Memory.{half, putHalf, marked, mark, reading, writing}
+use Rattle.soundram.specs.Address.{forwardOf, halfwordOf}
+use Rattle.soundram.specs.declared.ByteAddress.{ByteAddress}
 use Rattle.soundram.specs.declared.Watch.{Watch}
 use Rattle.soundram.specs.declared.Reader.{Reader}
 
@@ -84,3 +86,11 @@ branch false p q = q
 unfoldable pub repeat : {S : Type 0} → (ℕ → S → Prog S) → ℕ → S → Prog S
 repeat f zero s = done s
 repeat f (suc n) s = bind (repeat f n s) (λ t. f n t)
+
+-- "A block load accesses 8 halfwords, in order from the voice address on, wrapping.": n halfwords, as bytes
+unfoldable pub bytesFrom : Reader → ℕ → ByteAddress → ℕ → Prog (List ℕ)
+bytesFrom who size a zero = done []
+bytesFrom who size a (suc n) =
+    bind (bytesFrom who size a n) (λ bs.
+    bind (get who true (halfwordOf (forwardOf size a (n * 2)))) (λ v.
+    done (bs ++ v % 256 ∷ v / 256 ∷ [])))

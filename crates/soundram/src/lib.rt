@@ -1,11 +1,11 @@
 // Sound RAM: addresses, halfwords, marks, and what every access to them notices.
 ghost use mathlib.Core.Path.{_≡_};
 ghost use mathlib.Core.Bool.{_||_, not};
-ghost use Prim.Native.Nat.{_+_, _*_, _/_, _<_};
+ghost use Prim.Native.Nat.{_+_, _*_, _/_, _≤_, _<_};
 ghost use lib.ListN.{length};
-ghost use Rattle.soundram.specs.Address.{addressOf, unitOf, halfwordOf, Within};
+ghost use Rattle.soundram.specs.Address.{addressOf, unitOf, forwardOf, halfwordOf, Lent, Within};
 ghost use Rattle.soundram.specs.Memory.{half, putHalf, marked, mark, latched};
-ghost use Rattle.soundram.specs.Program.{Does, memOf, get, put};
+ghost use Rattle.soundram.specs.Program.{Does, memOf, get, put, bytesFrom};
 
 // An address in units of 8 bytes, as registers hold it.
 pub struct UnitAddress(pub u16);
@@ -60,6 +60,19 @@ pub fn unit_of(a: ByteAddress) -> UnitAddress
     ensures { λ r. ⌜ r ≡ unitOf a ⌝ }
 {
     UnitAddress((a.0 / 8) as u16)
+}
+
+// k bytes further on.
+pub fn forward(size: u32, a: ByteAddress, k: u32) -> ByteAddress
+    requires { ⌜ (a .0 < size) × (k ≤ size) × (size ≤ 0x80000) ⌝ }
+    ensures { λ r. ⌜ r ≡ forwardOf size a k ⌝ }
+{
+    let s = a.0 + k;
+    if s < size {
+        ByteAddress(s)
+    } else {
+        ByteAddress(s - size)
+    }
 }
 
 // A byte as a halfword.
@@ -142,4 +155,22 @@ pub fn write(ram: &mut [u8], marks: &mut [u8], a: ByteAddress, v: u16, w: Watch)
     put_half(ram, a, v);
     set_mark(marks, a);
     noticed(w, a, true)
+}
+
+// The 16 bytes of the block at an address, all of them counted reads.
+pub fn load(ram: &[u8], marks: &[u8], who: Reader, size: u32, a: ByteAddress, w: Watch) -> Block
+    requires { ⌜ Lent size (now ram) (now marks) × (a .0 < size) ⌝ }
+    ensures { λ r. ⌜ Does (bytesFrom who size a 8) (memOf (now (ram .entry)) (now (marks .entry)) w) (r .bytes) (memOf (now (ram .entry)) (now (marks .entry)) (r .watch)) ⌝ }
+{
+    let mut bytes = [0u8; 16];
+    let mut watch = w;
+    for i in 0..8usize {
+        let k = i * 2;
+        let got = read(ram, marks, who, true, forward(size, a, k as u32), watch);
+        bytes[k] = (got.value % 256) as u8;
+        bytes[k + 1] = (got.value / 256) as u8;
+        let next = got.watch;
+        watch = next;
+    }
+    Block { bytes, watch }
 }
