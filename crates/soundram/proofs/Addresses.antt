@@ -1,19 +1,32 @@
 -- Addresses, as the code finds them. Assumes nothing.
-use mathlib.Core.Path.{_≡_, sym, ap}
+use mathlib.Core.Path.{_≡_, _∙_}
 use Prim.Native.Nat.{ℕ, _+_, _-_, _*_, _%_, _≤_, _<_}
-use native.Mathlib.Nat.{mod-eq-of-lt, mod-eq-sub-mod, mod-lt}
+use native.Mathlib.Nat.{mod-eq-of-lt, mod-eq-sub-mod, mod-lt, mod-mod-of-dvd, dvd-of-mod-eq-zero}
 use native.Mathlib.Omega.{arith}
 use Rattle.soundram.specs.Address.{addressOf, forwardOf}
 use Rattle.soundram.specs.declared.UnitAddress.{UnitAddress}
 use Rattle.soundram.specs.declared.ByteAddress.{ByteAddress}
 
+-- a remainder of a multiple of 8 by one
+mod-multiple : (x size : ℕ) → size % 8 ≡ 0 → x % 8 ≡ 0 → x % size % 8 ≡ 0
+mod-multiple x size e p = mod-mod-of-dvd 8 x (dvd-of-mod-eq-zero 8 e) ∙ p
+
 pub address-small : (size : ℕ) (u : UnitAddress) → u .0 * 8 < size → record { 0 = u .0 * 8 } ≡ addressOf size u
 unfolding addressOf
 address-small size u h = rw (mod-eq-of-lt h)
 
+-- a unit's address is a multiple of 8, and so is one 8 or 16 bytes on
+pub address-multiple : (size : ℕ) (u : UnitAddress) → size % 8 ≡ 0 → addressOf size u .0 % 8 ≡ 0
+unfolding addressOf
+address-multiple size u e = mod-multiple (u .0 * 8) size e (omega arith)
+
 pub address-below : (size : ℕ) (u : UnitAddress) → 0 < size → addressOf size u .0 < size
 unfolding addressOf
 address-below size u h = mod-lt (u .0 * 8) h
+
+pub forward-multiple : (size : ℕ) (a : ByteAddress) (k : ℕ) → size % 8 ≡ 0 → a .0 % 8 ≡ 0 → k % 8 ≡ 0 → forwardOf size a k .0 % 8 ≡ 0
+unfolding forwardOf
+forward-multiple size a k e p q = mod-multiple (a .0 + k) size e (omega arith)
 
 pub forward-small : (size : ℕ) (a : ByteAddress) (k : ℕ) → a .0 + k < size → record { 0 = a .0 + k } ≡ forwardOf size a k
 unfolding forwardOf

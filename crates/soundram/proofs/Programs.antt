@@ -3,14 +3,14 @@
 use mathlib.Core.Path.{_≡_, refl, ap, ap₂, sym, subst, _∙_}
 use mathlib.Core.Bool.{Bool, true, false, _||_, _&&_, not, or-false, or-assoc}
 use mathlib.Core.List.{List, [], _∷_}
-use Prim.Native.Nat.{ℕ, zero, suc, _+_, _*_, _/_, _≤_, _<_}
+use Prim.Native.Nat.{ℕ, _+_, _*_, _≤_, _<_}
 use native.Mathlib.Numerals.{add-one}
 use native.Mathlib.Omega.{arith}
 use lib.Dec.{eqb}
 use lib.ListN.{length}
 use Rattle.soundram.specs.Address.{Lent, Within}
 use Rattle.soundram.specs.Memory.{half, putHalf, marked, mark, latched, reading, writing}
-use Rattle.soundram.specs.Program.{Prog, done, read, write, Mem, memOf, afterRead, afterWrite, Result, run, Does, Access, reads, writes, trace, isUnmarked, anyUnmarked, bind, get, put, branch, repeat}
+use Rattle.soundram.specs.Program.{Prog, done, read, write, Mem, memOf, afterRead, afterWrite, Result, run, Does, Access, reads, writes, trace, anyUnmarked, bind, get, put, branch, repeat}
 use Rattle.soundram.specs.declared.ByteAddress.{ByteAddress}
 use Rattle.soundram.specs.declared.Reader.{Reader}
 use Rattle.soundram.specs.declared.Watch.{Watch}
@@ -147,12 +147,44 @@ module _ {S : Type 0} (f : ℕ → S → Prog S) where
 -- straight-line code: `unfolding PROGRAM`, then `search does`
 pub ruleset does = (does-done, does-yes, does-no, does-bind)
 
+-- ---- what holds of a program's answer, whatever its reads give
+
+pub data Always {A : Type 0} (P : A → Type 0) : Prog A → Type 0 where
+  ends : {a : A} → P a → Always P (done a)
+  reading-on : {who : Reader} {c : Bool} {h : ℕ} {k : ℕ → Prog A} → ((v : ℕ) → Always P (k v)) → Always P (read who c h k)
+  writing-on : {h v : ℕ} {p : Prog A} → Always P p → Always P (write h v p)
+
+always-run : {A : Type 0} {P : A → Type 0} {p : Prog A} → Always P p → (m : Mem) → P (run p m .answer)
+unfolding run
+always-run (ends q) m = q
+always-run (reading-on f) m = always-run (f _) _
+always-run (writing-on q) m = always-run q _
+
+pub always-does : {A : Type 0} {P : A → Type 0} {p : Prog A} {m n : Mem} {a : A} → Always P p → Does p m a n → P a
+always-does {P} {m} q d = subst (λ (r : Result _). P (r .answer)) (d .ran) (always-run q m)
+
+pub always-any : {A : Type 0} (p : Prog A) → Always (λ _. Unit {0}) p
+always-any (done a) = ends tt
+always-any (read who c h k) = reading-on (λ v. always-any (k v))
+always-any (write h v p) = writing-on (always-any p)
+
+pub always-bind : {A B : Type 0} {P : A → Type 0} {Q : B → Type 0} {p : Prog A} {f : A → Prog B} → Always P p → ((a : A) → P a → Always Q (f a)) → Always Q (bind p f)
+unfolding bind
+always-bind (ends q) g = g _ q
+always-bind (reading-on k) g = reading-on (λ v. always-bind (k v) g)
+always-bind (writing-on q) g = writing-on (always-bind q g)
+
+pub always-branch : {A : Type 0} {P : A → Type 0} (b : Bool) {p q : Prog A} → (b ≡ true → Always P p) → (b ≡ false → Always P q) → Always P (branch b p q)
+unfolding branch
+always-branch true f g = f refl
+always-branch false f g = g refl
+
 -- ---- what is lent stays lent
 
 pub lent-after : {A : Type 0} {p : Prog A} {size : ℕ} {m n : Mem} {a : A} → Does p m a n → Lent size (m .ram) (m .marks) → Lent size (n .ram) (n .marks)
 lent-after d l =
     let k = does-kept d in
-    record { ram-size = k .ram ∙ l .ram-size; marks-size = ap (λ (x : ℕ). x * 16) (k .marks) ∙ l .marks-size; least = l .least; most = l .most }
+    record { ram-size = k .ram ∙ l .ram-size; marks-size = ap (λ (x : ℕ). x * 16) (k .marks) ∙ l .marks-size; sized = l .sized }
 
 pub within : {size : ℕ} {ram marks : List ℕ} {a : ByteAddress} → Lent size ram marks → a .0 < size → Within ram marks a
 within l h = record { below = omega arith; marks-size = omega arith }

@@ -1,12 +1,11 @@
 -- Two runs of one program, on memories that agree on what is marked, end alike or both in doubt. Assumes nothing.
 use mathlib.Core.Path.{_≡_, refl, ap, ap₂, sym, _∙_, subst}
-use mathlib.Core.Bool.{Bool, true, false, _||_, _&&_, not, or-true}
+use mathlib.Core.Bool.{Bool, true, false, _||_, not, or-true}
 use mathlib.Core.List.{List}
 use Prim.Native.Nat.{ℕ, zero, suc}
 use native.Mathlib.Decide.{ℕ-discrete}
-use lib.ListN.{length}
 use Rattle.soundram.specs.Memory.{half, putHalf, marked, mark, reading, writing}
-use Rattle.soundram.specs.Program.{Prog, done, read, write, Mem, afterRead, afterWrite, Result, run, bind, get, put, branch, repeat}
+use Rattle.soundram.specs.Program.{Prog, done, Mem, afterRead, afterWrite, run, bind, get, put, branch, repeat}
 use Rattle.soundram.specs.TwoRuns.{AgreeAt, Agree, Same, doubted, alike, Rel, both-done, seen, blind, both-write, Safe}
 use Rattle.soundram.specs.declared.Reader.{Reader}
 use Rattle.soundram.specs.declared.Watch.{Watch}

@@ -22,12 +22,17 @@ forwardOf size a k = record { 0 = (a .0 + k) % size }
 abbrev pub halfwordOf : ByteAddress → ℕ
 halfwordOf a = a .0 / 2
 
--- "Sound RAM is L bytes, L = 65,536 or 524,288"; "Marks are L/16 bytes". Of L, no more is used than its ends
+-- "L = 65,536 or 524,288": of L, no more is used than its ends and that 16 divides it
+pub record Sized (size : ℕ) : Type 0 where
+  pub least : 0x10000 ≤ size
+  pub most : size ≤ 0x80000
+  pub sixteens : size % 16 ≡ 0
+
+-- "Sound RAM is L bytes"; "Marks are L/16 bytes"
 pub record Lent (size : ℕ) (ram marks : List ℕ) : Type 0 where
   pub ram-size : length ram ≡ size
   pub marks-size : length marks * 16 ≡ size
-  pub least : 0x10000 ≤ size
-  pub most : size ≤ 0x80000
+  pub sized : Sized size
 
 -- an address that lies in what is lent
 pub record Within (ram marks : List ℕ) (a : ByteAddress) : Type 0 where

@@ -1,0 +1,5 @@
+pub mod Keys
+pub mod Loads
+pub mod Sounds
+pub mod Range
+pub mod Ticks
