@@ -170,3 +170,7 @@ ready-index size who v d r = ready-range size who v d r .index
 
 pub ready-level : (size : ℕ) (who : Reader) (v : Voice) {w : Voice} {m n : Mem} → Does (readyOf who size v) m w n → InRange size v → w .envelope .level ≤ 0x7FFF
 ready-level size who v d r = ready-range size who v d r .envelope .level
+
+pub tick-range : (size : ℕ) (who : Reader) (s : Settings) (below : ℤ) (level : ℕ) (v : Voice) {t : Tick} {m n : Mem} → Does (tickOf who size s below level v) m t n
+    → Sized size → InRange size v → InRange size (t .voice)
+tick-range size who s below level v d z r = always-does (tick-in who s below level v z r) d
