@@ -3,3 +3,4 @@ pub mod Loads
 pub mod Sounds
 pub mod Range
 pub mod Ticks
+pub mod Safe

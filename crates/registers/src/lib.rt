@@ -1,0 +1,27 @@
+// The registers as last written: 256 halfwords, the one at an offset from 1F801C00h.
+ghost use mathlib.Core.Path.{_≡_};
+ghost use Prim.Native.Nat.{_<_};
+ghost use Rattle.registers.specs.Map.{registerAt, ofVoice, flagOf};
+
+pub fn at(regs: &[u16; 256], offset: usize) -> u16
+    requires { ⌜ offset < 512 ⌝ }
+    ensures { λ r. ⌜ r ≡ registerAt (now (regs .entry)) offset ⌝ }
+{
+    regs[offset / 2]
+}
+
+// A register of voice n, by its offset from the voice's first.
+pub fn of_voice(regs: &[u16; 256], n: usize, offset: usize) -> u16
+    requires { ⌜ (n < 24) × (offset < 16) ⌝ }
+    ensures { λ r. ⌜ r ≡ ofVoice (now (regs .entry)) n offset ⌝ }
+{
+    regs[n * 8 + offset / 2]
+}
+
+// The flag of voice n in the pair of registers at an offset.
+pub fn flag(regs: &[u16; 256], offset: usize, n: usize) -> bool
+    requires { ⌜ (n < 24) × (offset < 508) ⌝ }
+    ensures { λ r. ⌜ r ≡ flagOf (now (regs .entry)) offset n ⌝ }
+{
+    (regs[offset / 2 + n / 16] >> (n % 16)) % 2 == 1
+}
