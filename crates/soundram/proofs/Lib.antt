@@ -3,3 +3,4 @@ pub mod Halfwords
 pub mod Programs
 pub mod Blocks
 pub mod TwoRuns
+pub mod Calls

@@ -30,9 +30,10 @@ returns c =
     let d = f .before in
     let b = d .before in
     let s = b .before in
-    let e = toZ-ofZ (s .fits .a) in
-    (added-as _ _ _ _ e (b .both-sides .ensures .0) (d .join .ensures) (f .flag .ensures) (g .gate .ensures) (j .join2 .ensures) e (c .capture .ensures) e,
-    record { dry = joined-in _ _ _ (d .join .ensures) (s .pre .1 .dry) (b .both-sides .ensures .1); wet = joined-in _ _ _ (j .join2 .ensures) (s .pre .1 .wet) (gated-in _ _ (g .gate .ensures) (b .both-sides .ensures .1)) })
+    let e = toZ-ofZ (s .fits .a) in (
+      added-as _ _ _ _ e (b .both-sides .ensures .0) (d .join .ensures) (f .flag .ensures) (g .gate .ensures) (j .join2 .ensures) e (c .capture .ensures) e,
+      record { dry = joined-in _ _ _ (d .join .ensures) (s .pre .1 .dry) (b .both-sides .ensures .1); wet = joined-in _ _ _ (j .join2 .ensures) (s .pre .1 .wet) (gated-in _ _ (g .gate .ensures) (b .both-sides .ensures .1)) },
+    )
 
 pub add-spec : {M : Type 1} → statement M
 add-spec =

@@ -54,9 +54,13 @@ loop-again c =
     let s = l .before .before .before in
     let v = l .loop .inv in
     let h = t .before .before .loop-test .taken in
-    let d = t .tick-one .ensures in
-    (omega arith, search needs, all-set _ _ (v .2) (v .1) h (turn-range _ _ _ _ _ _ (d .0) (s .pre .0 .sized) (v .2 .each _ h)), d .1,
-    repeat-more _ _ _ _ _ (v .4) (voice-does _ _ _ _ _ _ (d .0)))
+    let d = t .tick-one .ensures in (
+      omega arith,
+      search needs,
+      all-set _ _ (v .2) (v .1) h (turn-range _ _ _ _ _ _ (d .0) (s .pre .0 .sized) (v .2 .each _ h)),
+      d .1,
+      repeat-more _ _ _ _ _ (v .4) (voice-does _ _ _ _ _ _ (d .0)),
+    )
 
 returns : tie.Need-returns Inv-loop μ-loop
 unfolding noSums
