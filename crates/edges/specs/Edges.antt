@@ -5,7 +5,7 @@ use mathlib.Core.Bool.{true, false}
 use mathlib.Core.List.{List, [], _∷_, map}
 use Prim.Native.Nat.{ℕ, zero, suc}
 use lib.IntN.{ℤ, pos, negsuc}
-use Rattle.fixed.specs.Signed.{signed, bitsOf}
+use Rattle.fixed.specs.Signed.{signed, moduloOf, bitsOf}
 use Rattle.fixed.specs.Arithmetic.{saturated, productOf, volumeOf}
 use Rattle.adpcm.specs.declared.Header.{Header}
 use Rattle.adpcm.specs.Adpcm.{predictedOf, sampleOf}
@@ -69,5 +69,5 @@ edges =
 
 -- all of them hold
 pub edges-hold : map (λ (e : Edge). e .is) edges ≡ map (λ (e : Edge). e .shall) edges
-unfolding edges numbers header run levelsOf after pitchStep limited modulatedOf signed bitsOf productOf volumeOf saturated predictedOf sampleOf rateOf sustainLevel cyclesOf stepOf clamped waitOf enteredOf phaseAfter movedOf tickedOf parityOf shiftedOf
+unfolding edges numbers header run levelsOf after pitchStep limited modulatedOf signed moduloOf bitsOf productOf volumeOf saturated predictedOf sampleOf rateOf sustainLevel cyclesOf stepOf clamped waitOf enteredOf phaseAfter movedOf tickedOf parityOf shiftedOf
 edges-hold = refl
