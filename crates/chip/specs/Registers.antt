@@ -1,0 +1,151 @@
+-- Register reads and writes. Assumes nothing.
+use mathlib.Core.Bool.{Bool, true, false, cond, _&&_, _||_, not}
+use mathlib.Core.List.{List, [], _∷_}
+use Prim.Native.Nat.{ℕ, zero, suc, _+_, _-_, _*_, _/_, _%_, _^_}
+use lib.Dec.{eqb, leb, ltb}
+use lib.ListN.{getD, set}
+use Rattle.fixed.specs.Bits.{bit, field}
+use Rattle.fixed.specs.Signed.{bitsOf}
+use Rattle.fixed.specs.Arithmetic.{volumeOf}
+use Rattle.noise.specs.Noise.{writtenOf}
+use Rattle.soundram.specs.declared.ByteAddress.{ByteAddress}
+use Rattle.soundram.specs.declared.UnitAddress.{UnitAddress}
+use Rattle.soundram.specs.Address.{addressOf}
+use Rattle.registers.specs.Map.{registerAt, ofVoice}
+use Rattle.voice.specs.declared.Source.{Source}
+use Rattle.voice.specs.declared.Voice.{Voice}
+use Rattle.voice.specs.Voice.{keyedOn, keyedOff, stoppedOf}
+use Rattle.voices.specs.Voices.{pastEnd}
+use Rattle.chip.specs.declared.State.{State}
+use Rattle.chip.specs.State.{withRegs, withVoices, withNoise, withControl, withReverb, withTransfer}
+
+-- ---- which offsets there are
+
+abbrev pub between : ℕ → ℕ → ℕ → Bool
+between low high x = leb low x && leb x high
+
+-- a voice's register
+abbrev pub isVoice : ℕ → Bool
+isVoice offset = ltb offset 0x180
+
+-- "Listed offsets": voices, 180h..19Eh, 1A2h..1AEh, 1B0h..1BAh, 1C0h..1FEh; even
+unfoldable pub listed : ℕ → Bool
+listed offset =
+    eqb (offset % 2) 0 && (between 0 0x19E offset || (between 0x1A2 0x1AE offset || (between 0x1B0 0x1BA offset || between 0x1C0 0x1FE offset)))
+
+-- "write to 19Ch, 19Eh, 1AEh, 1B8h, 1BAh"
+unfoldable pub readOnly : ℕ → Bool
+readOnly offset = eqb offset 0x19C || (eqb offset 0x19E || (eqb offset 0x1AE || (eqb offset 0x1B8 || eqb offset 0x1BA)))
+
+-- "volume with bit 15 set; +Ch of a voice or 1A8h written; .. 1ACh with bits 3-1 other than 2". "Only main volume (180h, 182h) and voice volumes
+-- are limited by bit 15."
+abbrev pub isVolume : ℕ → Bool
+isVolume offset = (isVoice offset && ltb (offset % 16) 4) || (eqb offset 0x180 || eqb offset 0x182)
+
+unfoldable pub notWritten : ℕ → ℕ → Bool
+notWritten offset value =
+    (isVolume offset && bit 15 value) || ((isVoice offset && eqb (offset % 16) 0xC) || (eqb offset 0x1A8 || (eqb offset 0x1AC && not (eqb (field 1 3 value) 2))))
+
+-- "1A8h read"
+abbrev pub notRead : ℕ → Bool
+notRead offset = eqb offset 0x1A8
+
+-- ---- what a write does besides keeping the value
+
+-- "Key writes act in the call, on the bits set in the value": f at each of the voices from first on whose bit is set; count is how many there are
+unfoldable pub onBits : (ℕ → Voice → Voice) → ℕ → ℕ → ℕ → List Voice → List Voice
+onBits f value first zero vs = vs
+onBits f value first (suc n) vs =
+    let ws = onBits f value first n vs in
+    cond (bit n value) (set ws (first + n) (f (first + n) (getD ws (first + n) pastEnd))) ws
+
+-- a pair of key registers: voices 0 to 15, then 16 to 23
+unfoldable pub onKeys : (ℕ → Voice → Voice) → ℕ → ℕ → List Voice → List Voice
+onKeys f second value vs = cond (eqb second 0) (onBits f value 0 16 vs) (onBits f value 16 8 vs)
+
+-- "Key on (SPUCNT bit 15 set)"; "An SPUCNT write with bit 15 clear ..; key on then starts none."
+unfoldable pub keyOn : State → ℕ → ℕ → State
+keyOn s second value =
+    cond (bit 15 (registerAt (s .regs) 0x1AA))
+    (withVoices s (onKeys (λ n v. keyedOn (s .choices .size) (record { 0 = ofVoice (s .regs) n 6 }) (ofVoice (s .regs) n 8) (ofVoice (s .regs) n 0xA)) second value (s .voices)))
+    s
+
+unfoldable pub keyOff : State → ℕ → ℕ → State
+keyOff s second value = withVoices s (onKeys (λ n v. keyedOff v (ofVoice (s .regs) n 8) (ofVoice (s .regs) n 0xA)) second value (s .voices))
+
+-- "+Eh the repeat unit"
+unfoldable pub setRepeat : State → ℕ → ℕ → State
+setRepeat s n value =
+    let v = getD (s .voices) n pastEnd in
+    withVoices s
+    (set (s .voices) n
+    (record {
+      envelope = v .envelope;
+      source = record { address = v .source .address; repeat = record { 0 = value } };
+      position = v .position;
+      playing = v .playing;
+      ended = v .ended
+    }))
+
+-- every voice stopped
+unfoldable pub stopAll : List Voice → List Voice
+stopAll [] = []
+stopAll (v ∷ vs) = stoppedOf v ∷ stopAll vs
+
+-- an SPUCNT write, of the value before it: the noise's timer; bit 15 clear stops the voices; "Writing SPUCNT with bit 6 clear clears the latch."
+unfoldable pub setControl : State → ℕ → ℕ → State
+setControl s old value =
+    record {
+      choices = s .choices;
+      regs = s .regs;
+      voices = cond (bit 15 value) (s .voices) (stopAll (s .voices));
+      noise = writtenOf (s .noise) old value;
+      control = record { applied = s .control .applied; latch = s .control .latch && bit 6 value; doubt = s .control .doubt };
+      capture = s .capture;
+      reverb = s .reverb;
+      transfer = s .transfer;
+      tick = s .tick
+    }
+
+abbrev pub placed : State → ℕ → ByteAddress
+placed s value = addressOf (s .choices .size) (record { 0 = value })
+
+-- the effects, on the state that keeps the value already; "Writing 1A2h or 1A6h also moves the reverb place or transfer address there."
+unfoldable pub effectOf : State → ℕ → ℕ → ℕ → State
+effectOf s offset old value =
+    cond (isVoice offset && eqb (offset % 16) 0xE) (setRepeat s (offset / 16) value)
+    (cond (between 0x188 0x18A offset) (keyOn s (offset - 0x188) value)
+    (cond (between 0x18C 0x18E offset) (keyOff s (offset - 0x18C) value)
+    (cond (eqb offset 0x1A2) (withReverb s (record { place = placed s value; right = s .reverb .right; held = s .reverb .held }))
+    (cond (eqb offset 0x1A6) (withTransfer s (placed s value))
+    (cond (eqb offset 0x1AA) (setControl s old value) s)))))
+
+unfoldable pub writeOf : State → ℕ → ℕ → State
+writeOf s offset value = effectOf (withRegs s (set (s .regs) (offset / 2) value)) offset (registerAt (s .regs) offset) value
+
+-- ---- what a read gives
+
+-- "19Ch/19Eh ENDX": the end flags of count voices from first on
+unfoldable pub endFlags : List Voice → ℕ → ℕ → ℕ
+endFlags vs first zero = 0
+endFlags vs first (suc n) = endFlags vs first n + cond (getD vs (first + n) pastEnd .ended) (2 ^ n) 0
+
+-- "SPUSTAT bits 5-0 take SPUCNT's. When read, bit 6 is the interrupt latch, 7 the applied bit 5, 8 and 9 modes 2 and 3, 11 capture place at or above
+-- 200h; the rest 0."
+unfoldable pub statusOf : State → ℕ
+statusOf s =
+    let applied = s .control .applied % 0x40 in
+    let mode = field 4 2 applied in
+    applied + cond (s .control .latch) 0x40 0 + cond (bit 5 applied) 0x80 0 + cond (eqb mode 2) 0x100 0 + cond (eqb mode 3) 0x200 0
+    + cond (leb 0x200 (s .capture)) 0x800 0
+
+-- "Carried registers read back as last written, but +Ch the envelope, +Eh the repeat unit, 19Ch/19Eh ENDX, 1B8h/1BAh the doubled main volume."
+unfoldable pub readOf : State → ℕ → ℕ
+readOf s offset =
+    cond (isVoice offset && eqb (offset % 16) 0xC) (getD (s .voices) (offset / 16) pastEnd .envelope .level)
+    (cond (isVoice offset && eqb (offset % 16) 0xE) (getD (s .voices) (offset / 16) pastEnd .source .repeat .0)
+    (cond (eqb offset 0x19C) (endFlags (s .voices) 0 16)
+    (cond (eqb offset 0x19E) (endFlags (s .voices) 16 8)
+    (cond (eqb offset 0x1AE) (statusOf s)
+    (cond (eqb offset 0x1B8) (bitsOf 16 (volumeOf (registerAt (s .regs) 0x180)))
+    (cond (eqb offset 0x1BA) (bitsOf 16 (volumeOf (registerAt (s .regs) 0x182))) (registerAt (s .regs) offset)))))))

@@ -1,0 +1,106 @@
+-- The state: fresh, and in range. Assumes nothing.
+use mathlib.Core.Bool.{Bool, true, false, _&&_, _||_, not}
+use mathlib.Core.List.{List, [], _∷_}
+use Prim.Native.Nat.{ℕ, _+_, _-_, _%_}
+use lib.Dec.{eqb, leb, ltb}
+use lib.ListN.{replicate, set}
+use lib.IntN.{pos}
+use Rattle.envelope.specs.declared.Envelope.{Envelope}
+use Rattle.envelope.specs.Adsr.{active}
+use Rattle.noise.specs.declared.Noise.{Noise}
+use Rattle.soundram.specs.declared.ByteAddress.{ByteAddress}
+use Rattle.soundram.specs.declared.UnitAddress.{UnitAddress}
+use Rattle.soundram.specs.declared.Watch.{Watch}
+use Rattle.soundram.specs.Address.{addressOf, halfwordOf}
+use Rattle.fixed.specs.Bits.{bit}
+use Rattle.registers.specs.Map.{registerAt}
+use Rattle.voice.specs.declared.Voice.{Voice}
+use Rattle.voice.specs.Voice.{fresh}
+use Rattle.chip.specs.declared.Control.{Control}
+use Rattle.chip.specs.declared.Reverb.{Reverb}
+use Rattle.chip.specs.declared.State.{State}
+
+-- ---- one place for each part that a rule changes
+
+abbrev pub withRegs : State → List ℕ → State
+withRegs s r = record { choices = s .choices; regs = r; voices = s .voices; noise = s .noise; control = s .control; capture = s .capture; reverb = s .reverb; transfer = s .transfer; tick = s .tick }
+
+abbrev pub withVoices : State → List Voice → State
+withVoices s v = record { choices = s .choices; regs = s .regs; voices = v; noise = s .noise; control = s .control; capture = s .capture; reverb = s .reverb; transfer = s .transfer; tick = s .tick }
+
+abbrev pub withNoise : State → Noise → State
+withNoise s n = record { choices = s .choices; regs = s .regs; voices = s .voices; noise = n; control = s .control; capture = s .capture; reverb = s .reverb; transfer = s .transfer; tick = s .tick }
+
+abbrev pub withControl : State → Control → State
+withControl s c = record { choices = s .choices; regs = s .regs; voices = s .voices; noise = s .noise; control = c; capture = s .capture; reverb = s .reverb; transfer = s .transfer; tick = s .tick }
+
+abbrev pub withReverb : State → Reverb → State
+withReverb s r = record { choices = s .choices; regs = s .regs; voices = s .voices; noise = s .noise; control = s .control; capture = s .capture; reverb = r; transfer = s .transfer; tick = s .tick }
+
+abbrev pub withTransfer : State → ByteAddress → State
+withTransfer s a = record { choices = s .choices; regs = s .regs; voices = s .voices; noise = s .noise; control = s .control; capture = s .capture; reverb = s .reverb; transfer = a; tick = s .tick }
+
+-- ---- "Fresh state: registers zero except 1ACh = 4; voices Idle; noise 0, timer 20000h; places 0; no doubt; tick number 0."
+
+unfoldable pub freshOf : ℕ → State
+freshOf size =
+    record {
+      choices = record { size = size };
+      regs = set (replicate 256 0) 0xD6 4;
+      voices = replicate 24 fresh;
+      noise = record { level = 0; timer = 0x20000 };
+      control = record { applied = 0; latch = false; doubt = false };
+      capture = 0;
+      reverb = record { place = record { 0 = 0 }; right = false; held = record { left = pos 0; right = pos 0 } };
+      transfer = record { 0 = 0 };
+      tick = 0
+    }
+
+-- ---- "Ranges (number 2)"
+
+-- "L one of the two"
+unfoldable pub sizeOk : ℕ → Bool
+sizeOk size = eqb size 0x10000 || eqb size 0x80000
+
+-- "envelope 0..7FFFh"; "envelope wait 0..400000h, at least 1 in Attack, Decay, Sustain, Release"
+unfoldable pub envelopeOk : Envelope → Bool
+envelopeOk e = leb (e .level) 0x7FFF && (leb (e .wait) 0x400000 && (not (active (e .phase)) || leb 1 (e .wait)))
+
+-- "pitch counter below 1000h; sample index 0..27; voice address a multiple of 8 below L"
+unfoldable pub voiceOk : ℕ → Voice → Bool
+voiceOk size v =
+    envelopeOk (v .envelope) && (ltb (v .position .counter) 0x1000 && (leb (v .position .index) 27
+    && (eqb (v .source .address .0 % 8) 0 && ltb (v .source .address .0) size)))
+
+unfoldable pub everyOk : ℕ → List Voice → Bool
+everyOk size [] = true
+everyOk size (v ∷ vs) = voiceOk size v && everyOk size vs
+
+-- the reverb's base, "1A2h reverb base"
+abbrev pub baseOf : State → ByteAddress
+baseOf s = addressOf (s .choices .size) (record { 0 = registerAt (s .regs) 0x1A2 })
+
+-- "capture place even, below 400h; reverb place even, from its base to L-2; transfer address even, below L; noise timer 0..20000h"
+unfoldable pub placesOk : State → Bool
+placesOk s =
+    eqb (s .capture % 2) 0 && (ltb (s .capture) 0x400
+    && (eqb (s .reverb .place .0 % 2) 0 && (leb (baseOf s .0) (s .reverb .place .0) && (leb (s .reverb .place .0) (s .choices .size - 2)
+    && (eqb (s .transfer .0 % 2) 0 && (ltb (s .transfer .0) (s .choices .size) && leb (s .noise .timer) 0x20000))))))
+
+unfoldable pub stateOk : State → Bool
+stateOk s = sizeOk (s .choices .size) && (everyOk (s .choices .size) (s .voices) && placesOk s)
+
+-- ---- what accesses watch: "If SPUCNT bits 15 and 6 are set", at the IRQ address
+
+unfoldable pub watchOf : State → Watch
+watchOf s =
+    let spucnt = registerAt (s .regs) 0x1AA in
+    record {
+      armed = bit 15 spucnt && bit 6 spucnt;
+      halfword = halfwordOf (addressOf (s .choices .size) (record { 0 = registerAt (s .regs) 0x1A4 }));
+      latch = s .control .latch;
+      doubt = s .control .doubt
+    }
+
+unfoldable pub watchedOf : State → Watch → State
+watchedOf s w = withControl s (record { applied = s .control .applied; latch = w .latch; doubt = w .doubt })
