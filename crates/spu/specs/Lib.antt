@@ -1,0 +1,3 @@
+pub mod Tick
+pub mod Transfer
+pub mod Step

@@ -1,0 +1,126 @@
+-- Every call, with its refusals, as one step of a machine. Assumes nothing.
+use mathlib.Core.Bool.{Bool, true, false, cond, _&&_, _||_, not}
+use mathlib.Core.List.{List, [], _∷_}
+use Prim.Native.Nat.{ℕ, _-_, _/_, _%_}
+use lib.Dec.{eqb, leb, ltb}
+use lib.ListN.{length}
+use lib.IntN.{ℤ, pos}
+use Rattle.fixed.specs.Bits.{field}
+use Rattle.stereo.specs.declared.Stereo.{Stereo}
+use Rattle.stereo.specs.Float.{stereoOf}
+use Rattle.soundram.specs.Program.{Prog, done, bind}
+use Rattle.soundram.specs.Calls.{Reply, Doing, still, works, Machine}
+use Rattle.chip.specs.declared.State.{State}
+use Rattle.chip.specs.State.{withTransfer, freshOf, stateOk, watchOf, watchedOf}
+use Rattle.chip.specs.Registers.{listed, readOnly, notWritten, notRead, writeOf, readOf}
+use Rattle.spu.specs.Tick.{Pair, tickOf}
+use Rattle.spu.specs.Transfer.{Moved, inwardOf, outwardOf}
+
+-- a call with its fixed arguments; an outgoing buffer is lent with its contents
+pub data Call : Type 0 where
+  write : ℕ → ℕ → Call
+  read : ℕ → Call
+  transferIn : List ℕ → Call
+  transferOut : List ℕ → Call
+  tick : ℤ → ℤ → Call
+  tickFloats : ℤ → ℤ → Call
+  reset : Call
+  view : ℕ → Call
+
+-- "Answers are all that a call returns, with its number .., and the outgoing buffer after it; of a block view, the number and the length."
+pub data Answer : Type 0 where
+  written : ℕ → Answer
+  value : ℕ → ℕ → Answer
+  moved : ℕ → ℕ → Answer
+  movedOut : ℕ → ℕ → List ℕ → Answer
+  pair : ℕ → Pair → Answer
+  floats : ℕ → Stereo → Answer
+  made : ℕ → Answer
+  viewed : ℕ → ℕ → Answer
+
+-- ---- "Numbers a call returns": an ordered list of tests, of which the first that applies gives its number, and 0 where none does
+
+pub record Test : Type 0 where
+  pub applies : Bool
+  pub number : ℕ
+
+unfoldable pub firstOf : List Test → ℕ
+firstOf [] = 0
+firstOf (t ∷ ts) = cond (t .applies) (t .number) (firstOf ts)
+
+abbrev test : Bool → ℕ → Test
+test b n = record { applies = b; number = n }
+
+-- 1: "RAM or marks of another length than the state's L asks"; a block view is lent RAM alone
+abbrev otherRam : State → ℕ → Bool
+otherRam s ram = not (eqb ram (s .choices .size))
+
+abbrev otherLent : State → ℕ → ℕ → Bool
+otherLent s ram marks = otherRam s ram || not (eqb marks (s .choices .size / 16))
+
+-- 2: "a state field outside its range"
+abbrev outside : State → Bool
+outside s = not (stateOk s)
+
+-- 6: the transfer mode, "applied mode"
+abbrev modeOf : State → ℕ
+modeOf s = field 4 2 (s .control .applied)
+
+-- 7: "0 or more than 32 halfwords"
+abbrev badCount : ℕ → Bool
+badCount n = eqb n 0 || ltb 32 n
+
+-- 8: "block address odd, not a multiple of 8, or beyond L-16"
+abbrev badBlock : State → ℕ → Bool
+badBlock s a = not (eqb (a % 8) 0) || ltb (s .choices .size - 16) a
+
+unfoldable pub numberOf : Call → State → ℕ → ℕ → ℕ
+numberOf (write offset v) s ram marks = firstOf (test (outside s) 2 ∷ test (not (listed offset)) 3 ∷ test (readOnly offset) 4 ∷ test (notWritten offset v) 5 ∷ [])
+numberOf (read offset) s ram marks = firstOf (test (outside s) 2 ∷ test (not (listed offset)) 3 ∷ test (notRead offset) 5 ∷ [])
+numberOf (transferIn vs) s ram marks =
+    firstOf (test (otherLent s ram marks) 1 ∷ test (outside s) 2 ∷ test (not (eqb (modeOf s) 1 || eqb (modeOf s) 2)) 6 ∷ test (badCount (length vs)) 7 ∷ [])
+numberOf (transferOut b) s ram marks =
+    firstOf (test (otherLent s ram marks) 1 ∷ test (outside s) 2 ∷ test (not (eqb (modeOf s) 3)) 6 ∷ test (badCount (length b)) 7 ∷ [])
+numberOf (tick left right) s ram marks = firstOf (test (otherLent s ram marks) 1 ∷ test (outside s) 2 ∷ [])
+numberOf (tickFloats left right) s ram marks = firstOf (test (otherLent s ram marks) 1 ∷ test (outside s) 2 ∷ [])
+numberOf reset s ram marks = firstOf (test (outside s) 2 ∷ [])
+numberOf (view a) s ram marks = firstOf (test (otherRam s ram) 1 ∷ test (outside s) 2 ∷ test (badBlock s a) 8 ∷ [])
+
+-- ---- what each call does
+
+-- "A refusal returns the state as handed in, zero for samples, counts and register readings, an empty view, .. outgoing buffer as they stood."
+unfoldable pub refusedOf : Call → ℕ → Answer
+refusedOf (write offset v) n = written n
+refusedOf (read offset) n = value n 0
+refusedOf (transferIn vs) n = moved n 0
+refusedOf (transferOut b) n = movedOut n 0 b
+refusedOf (tick left right) n = pair n (record { left = pos 0; right = pos 0 })
+refusedOf (tickFloats left right) n = floats n (stereoOf (pos 0) (pos 0))
+refusedOf reset n = made n
+refusedOf (view a) n = viewed n 0
+
+abbrev reply : Answer → State → Reply Answer State
+reply a s = record { answer = a; state = s }
+
+-- "Reset gives back the state as made"; "The block view gives back the caller's own sixteen bytes"
+unfoldable pub acceptedOf : Call → State → Doing Answer State
+acceptedOf (write offset v) s = still (written 0) (writeOf s offset v)
+acceptedOf (read offset) s = still (value 0 (readOf s offset)) s
+acceptedOf (transferIn vs) s = works (bind (inwardOf (s .choices .size) (s .transfer) vs) (λ a. done (reply (moved 0 (length vs)) (withTransfer s a))))
+acceptedOf (transferOut b) s =
+    works (bind (outwardOf (s .choices .size) (s .transfer) (length b)) (λ m. done (reply (movedOut 0 (length b) (m .values)) (withTransfer s (m .address)))))
+acceptedOf (tick left right) s = works (bind (tickOf s left right) (λ r. done (reply (pair 0 (r .answer)) (r .state))))
+acceptedOf (tickFloats left right) s = works (bind (tickOf s left right) (λ r. done (reply (floats 0 (stereoOf (r .answer .left) (r .answer .right))) (r .state))))
+acceptedOf reset s = still (made 0) (freshOf (s .choices .size))
+acceptedOf (view a) s = still (viewed 0 16) s
+
+unfoldable pub stepOf : Call → State → ℕ → ℕ → Doing Answer State
+stepOf c s ram marks = let n = numberOf c s ram marks in cond (eqb n 0) (acceptedOf c s) (still (refusedOf c n) s)
+
+abbrev pub chip : Machine Call Answer State
+chip = record { step = stepOf; watch = watchOf; watched = watchedOf }
+
+-- "Making a state for another L gives 1 and the fresh state for 65,536."
+pub record Made : Type 0 where
+  pub number : ℕ
+  pub state : State

@@ -1,0 +1,123 @@
+-- One tick, in document 01's order: control, noise, voices, mix, capture, reverb, tick number. Assumes nothing.
+use mathlib.Core.Bool.{Bool, true, false, cond, _&&_, not}
+use mathlib.Core.List.{List, [], _∷_}
+use Prim.Native.Nat.{ℕ, _+_, _*_, _/_, _%_, _^_}
+use lib.Dec.{eqb}
+use lib.IntN.{ℤ, pos, _+ℤ_}
+use Rattle.fixed.specs.Bits.{bit}
+use Rattle.fixed.specs.Signed.{signed, bitsOf}
+use Rattle.fixed.specs.Arithmetic.{saturated, productOf, volumeOf}
+use Rattle.noise.specs.declared.Noise.{Noise}
+use Rattle.noise.specs.Noise.{tickedOf}
+use Rattle.soundram.specs.declared.ByteAddress.{ByteAddress}
+use Rattle.soundram.specs.Program.{Prog, done, bind, put, repeat}
+use Rattle.soundram.specs.Calls.{Reply}
+use Rattle.registers.specs.Map.{registerAt}
+use Rattle.voices.specs.declared.Sums.{Sums}
+use Rattle.voices.specs.declared.Captured.{Captured}
+use Rattle.voices.specs.Voices.{Bank, noSums, voiceAt}
+use Rattle.reverb.specs.declared.Area.{Area}
+use Rattle.reverb.specs.declared.Turning.{Turning}
+use Rattle.reverb.specs.Reverb.{turnOf}
+use Rattle.chip.specs.declared.Reverb.{Reverb}
+use Rattle.chip.specs.declared.State.{State}
+use Rattle.chip.specs.State.{baseOf}
+
+-- the pair that a tick gives
+pub record Pair : Type 0 where
+  pub left : ℤ
+  pub right : ℤ
+
+-- ---- mix
+
+-- "CD·volume/8000h joins if bit 0."
+unfoldable pub cdOf : List ℕ → ℕ → ℤ → ℤ
+cdOf regs offset cd = cond (bit 0 (registerAt regs 0x1AA)) (productOf cd (signed 16 (registerAt regs offset))) (pos 0)
+
+-- "Voices sum to a saturated total, zeroed in the mix when SPUCNT bit 14 is clear, as is reverb output. .. The saturated sum times main volume /8000h,
+-- saturated, is the answer."
+unfoldable pub mixOf : List ℕ → ℤ → ℤ → ℤ → ℕ → ℤ
+mixOf regs total held cd main =
+    let heard = cond (bit 14 (registerAt regs 0x1AA)) (saturated total +ℤ held) (pos 0) in
+    saturated (productOf (saturated (heard +ℤ cd)) (volumeOf (registerAt regs main)))
+
+unfoldable pub pairOf : State → Sums → ℤ → ℤ → Pair
+pairOf s sums left right =
+    record {
+      left = mixOf (s .regs) (sums .dry .left) (s .reverb .held .left) (cdOf (s .regs) 0x1B0 left) 0x180;
+      right = mixOf (s .regs) (sums .dry .right) (s .reverb .held .right) (cdOf (s .regs) 0x1B2 right) 0x182
+    }
+
+-- ---- capture: "Raw CD left, right, amplitudes of voices 1 and 3 go to 000h, 400h, 800h, C00h plus the place; the place moves 2, from 3FEh to 0."
+
+abbrev captureAt : ℕ → ℕ → ℤ → Prog (Unit {0})
+captureAt area place x = put ((area + place) / 2) (bitsOf 16 x)
+
+unfoldable pub captureOf : ℕ → ℤ → ℤ → Captured → Prog (Unit {0})
+captureOf place left right c =
+    bind (captureAt 0x000 place left) (λ _.
+    bind (captureAt 0x400 place right) (λ _.
+    bind (captureAt 0x800 place (c .first)) (λ _. captureAt 0xC00 place (c .third))))
+
+abbrev pub captureNext : ℕ → ℕ
+captureNext place = (place + 2) % 0x400
+
+-- ---- reverb
+
+-- "Counted: .. every reverb read, unless bit 7 is clear and that side's output volume is 0."
+unfoldable pub turningOf : List ℕ → Bool → Turning
+turningOf regs right =
+    let on = bit 7 (registerAt regs 0x1AA) in
+    record { right = right; counted = not (not on && eqb (registerAt regs (0x184 + cond right 2 0)) 0); writes = on }
+
+-- "input is the saturated sum of EON voices' sides and, if bits 0 and 2, CD after its volume"
+unfoldable pub inputOf : List ℕ → ℤ → ℤ → ℤ
+inputOf regs wet cd = saturated (wet +ℤ cond (bit 2 (registerAt regs 0x1AA)) cd (pos 0))
+
+-- "the place moves 2 after right, from L-2 to the base"
+unfoldable pub placeAfter : ℕ → ℕ → Bool → ℕ → ℕ
+placeAfter size base right place = cond right (cond (eqb (place + 2) size) base (place + 2)) place
+
+unfoldable pub reverbAfter : State → ℤ → Reverb
+reverbAfter s out =
+    let r = s .reverb in
+    record {
+      place = record { 0 = placeAfter (s .choices .size) (baseOf s .0) (r .right) (r .place .0) };
+      right = not (r .right);
+      held = record { left = cond (r .right) (r .held .left) out; right = cond (r .right) out (r .held .right) }
+    }
+
+abbrev pub areaOf : State → Area
+areaOf s = record { size = s .choices .size; base = baseOf s .0; place = s .reverb .place .0 }
+
+unfoldable pub reverbOf : State → Sums → ℤ → ℤ → Prog Reverb
+reverbOf s sums left right =
+    let r = s .reverb .right in
+    let cd = cond r (cdOf (s .regs) 0x1B2 right) (cdOf (s .regs) 0x1B0 left) in
+    let wet = cond r (sums .wet .right) (sums .wet .left) in
+    bind (turnOf (s .regs) (areaOf s) (turningOf (s .regs) r) (inputOf (s .regs) wet cd)) (λ out. done (reverbAfter s out))
+
+-- ---- the whole tick, of the raw CD pair
+
+unfoldable pub tickOf : State → ℤ → ℤ → Prog (Reply Pair State)
+tickOf s left right =
+    let spucnt = registerAt (s .regs) 0x1AA in
+    let noise = tickedOf (s .noise) spucnt in
+    bind (repeat (voiceAt (s .choices .size) (s .regs) (noise .level)) 24 (record { voices = s .voices; sums = noSums })) (λ b.
+    bind (captureOf (s .capture) left right (b .sums .captured)) (λ _.
+    bind (reverbOf s (b .sums) left right) (λ r.
+    done (record {
+      answer = pairOf s (b .sums) left right;
+      state =
+        record {
+          choices = s .choices;
+          regs = s .regs;
+          voices = b .voices;
+          noise = noise;
+          control = record { applied = spucnt % 0x40; latch = s .control .latch; doubt = s .control .doubt };
+          capture = captureNext (s .capture);
+          reverb = r;
+          transfer = s .transfer;
+          tick = (s .tick + 1) % 2 ^ 32
+        }
+    }))))
