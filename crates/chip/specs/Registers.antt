@@ -66,9 +66,10 @@ onKeys f second value vs = cond (eqb second 0) (onBits f value 0 16 vs) (onBits 
 -- "Key on (SPUCNT bit 15 set)"; "An SPUCNT write with bit 15 clear ..; key on then starts none."
 unfoldable pub keyOn : State → ℕ → ℕ → State
 keyOn s second value =
-    cond (bit 15 (registerAt (s .regs) 0x1AA))
-    (withVoices s (onKeys (λ n v. keyedOn (s .choices .size) (record { 0 = ofVoice (s .regs) n 6 }) (ofVoice (s .regs) n 8) (ofVoice (s .regs) n 0xA)) second value (s .voices)))
-    s
+    withVoices s
+    (cond (bit 15 (registerAt (s .regs) 0x1AA))
+    (onKeys (λ n v. keyedOn (s .choices .size) (record { 0 = ofVoice (s .regs) n 6 }) (ofVoice (s .regs) n 8) (ofVoice (s .regs) n 0xA)) second value (s .voices))
+    (s .voices))
 
 unfoldable pub keyOff : State → ℕ → ℕ → State
 keyOff s second value = withVoices s (onKeys (λ n v. keyedOff v (ofVoice (s .regs) n 8) (ofVoice (s .regs) n 0xA)) second value (s .voices))
@@ -84,7 +85,7 @@ setRepeat s n value =
       source = record { address = v .source .address; repeat = record { 0 = value } };
       position = v .position;
       playing = v .playing;
-      ended = v .ended
+      ended = v .ended;
     }))
 
 -- every voice stopped
@@ -104,8 +105,18 @@ setControl s old value =
       capture = s .capture;
       reverb = s .reverb;
       transfer = s .transfer;
-      tick = s .tick
+      tick = s .tick;
     }
+
+-- "+Eh" of a voice; "188h KON"; "18Ch KOFF"
+abbrev pub isRepeat : ℕ → Bool
+isRepeat offset = isVoice offset && eqb (offset % 16) 0xE
+
+abbrev pub isKeyOn : ℕ → Bool
+isKeyOn offset = between 0x188 0x18A offset
+
+abbrev pub isKeyOff : ℕ → Bool
+isKeyOff offset = between 0x18C 0x18E offset
 
 abbrev pub placed : State → ℕ → ByteAddress
 placed s value = addressOf (s .choices .size) (record { 0 = value })
@@ -113,9 +124,9 @@ placed s value = addressOf (s .choices .size) (record { 0 = value })
 -- the effects, on the state that keeps the value already; "Writing 1A2h or 1A6h also moves the reverb place or transfer address there."
 unfoldable pub effectOf : State → ℕ → ℕ → ℕ → State
 effectOf s offset old value =
-    cond (isVoice offset && eqb (offset % 16) 0xE) (setRepeat s (offset / 16) value)
-    (cond (between 0x188 0x18A offset) (keyOn s (offset - 0x188) value)
-    (cond (between 0x18C 0x18E offset) (keyOff s (offset - 0x18C) value)
+    cond (isRepeat offset) (setRepeat s (offset / 16) value)
+    (cond (isKeyOn offset) (keyOn s (offset - 0x188) value)
+    (cond (isKeyOff offset) (keyOff s (offset - 0x18C) value)
     (cond (eqb offset 0x1A2) (withReverb s (record { place = placed s value; right = s .reverb .right; held = s .reverb .held }))
     (cond (eqb offset 0x1A6) (withTransfer s (placed s value))
     (cond (eqb offset 0x1AA) (setControl s old value) s)))))
@@ -143,7 +154,7 @@ statusOf s =
 unfoldable pub readOf : State → ℕ → ℕ
 readOf s offset =
     cond (isVoice offset && eqb (offset % 16) 0xC) (getD (s .voices) (offset / 16) pastEnd .envelope .level)
-    (cond (isVoice offset && eqb (offset % 16) 0xE) (getD (s .voices) (offset / 16) pastEnd .source .repeat .0)
+    (cond (isRepeat offset) (getD (s .voices) (offset / 16) pastEnd .source .repeat .0)
     (cond (eqb offset 0x19C) (endFlags (s .voices) 0 16)
     (cond (eqb offset 0x19E) (endFlags (s .voices) 16 8)
     (cond (eqb offset 0x1AE) (statusOf s)

@@ -53,7 +53,7 @@ freshOf size =
       capture = 0;
       reverb = record { place = record { 0 = 0 }; right = false; held = record { left = pos 0; right = pos 0 } };
       transfer = record { 0 = 0 };
-      tick = 0
+      tick = 0;
     }
 
 -- ---- "Ranges (number 2)"
@@ -99,7 +99,7 @@ watchOf s =
       armed = bit 15 spucnt && bit 6 spucnt;
       halfword = halfwordOf (addressOf (s .choices .size) (record { 0 = registerAt (s .regs) 0x1A4 }));
       latch = s .control .latch;
-      doubt = s .control .doubt
+      doubt = s .control .doubt;
     }
 
 unfoldable pub watchedOf : State → Watch → State

@@ -45,7 +45,7 @@ unfoldable pub pairOf : State → Sums → ℤ → ℤ → Pair
 pairOf s sums left right =
     record {
       left = mixOf (s .regs) (sums .dry .left) (s .reverb .held .left) (cdOf (s .regs) 0x1B0 left) 0x180;
-      right = mixOf (s .regs) (sums .dry .right) (s .reverb .held .right) (cdOf (s .regs) 0x1B2 right) 0x182
+      right = mixOf (s .regs) (sums .dry .right) (s .reverb .held .right) (cdOf (s .regs) 0x1B2 right) 0x182;
     }
 
 -- ---- capture: "Raw CD left, right, amplitudes of voices 1 and 3 go to 000h, 400h, 800h, C00h plus the place; the place moves 2, from 3FEh to 0."
@@ -84,7 +84,7 @@ reverbAfter s out =
     record {
       place = record { 0 = placeAfter (s .choices .size) (baseOf s .0) (r .right) (r .place .0) };
       right = not (r .right);
-      held = record { left = cond (r .right) (r .held .left) out; right = cond (r .right) out (r .held .right) }
+      held = record { left = cond (r .right) (r .held .left) out; right = cond (r .right) out (r .held .right) };
     }
 
 abbrev pub areaOf : State → Area
@@ -109,15 +109,15 @@ tickOf s left right =
     done (record {
       answer = pairOf s (b .sums) left right;
       state =
-        record {
-          choices = s .choices;
-          regs = s .regs;
-          voices = b .voices;
-          noise = noise;
-          control = record { applied = spucnt % 0x40; latch = s .control .latch; doubt = s .control .doubt };
-          capture = captureNext (s .capture);
-          reverb = r;
-          transfer = s .transfer;
-          tick = (s .tick + 1) % 2 ^ 32
-        }
+          record {
+            choices = s .choices;
+            regs = s .regs;
+            voices = b .voices;
+            noise = noise;
+            control = record { applied = spucnt % 0x40; latch = s .control .latch; doubt = s .control .doubt };
+            capture = captureNext (s .capture);
+            reverb = r;
+            transfer = s .transfer;
+            tick = (s .tick + 1) % 2 ^ 32;
+          };
     }))))

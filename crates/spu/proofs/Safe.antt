@@ -1,0 +1,63 @@
+-- Every call's program is safe: its answer and its writes are the same whatever its uncounted reads give. Assumes nothing.
+use mathlib.Core.Path.{_≡_, refl}
+use mathlib.Core.Bool.{Bool, true, false, _&&_, not}
+use mathlib.Core.List.{List, [], _∷_}
+use Prim.Native.Nat.{ℕ, zero, suc, _+_}
+use lib.Dec.{eqb}
+use borrow.Author.Tests.{eqb-true}
+use lib.IntN.{ℤ}
+use Rattle.fixed.specs.Bits.{bit}
+use Rattle.soundram.specs.declared.ByteAddress.{ByteAddress}
+use Rattle.soundram.specs.Address.{forwardOf}
+use Rattle.soundram.specs.TwoRuns.{Safe}
+use Rattle.soundram.proofs.TwoRuns.{safe-done, safe-bind, safe-get, safe-put}
+use Rattle.registers.specs.Map.{registerAt}
+use Rattle.voices.specs.declared.Sums.{Sums}
+use Rattle.voices.specs.declared.Captured.{Captured}
+use Rattle.voices.proofs.Turns.{safe-voices}
+use Rattle.reverb.specs.declared.Area.{Area}
+use Rattle.reverb.specs.declared.Turning.{Turning}
+use Rattle.reverb.specs.Reverb.{own, turnOf}
+use Rattle.reverb.proofs.Safe.{counted-turn, blind-turn}
+use Rattle.chip.specs.declared.State.{State}
+use Rattle.spu.specs.Tick.{captureOf, turningOf, reverbOf, tickOf}
+use Rattle.spu.specs.Transfer.{inwardOf, outwardOf}
+
+-- ---- transfers
+
+pub safe-inward : (size : ℕ) (a : ByteAddress) (vs : List ℕ) → Safe (inwardOf size a vs)
+unfolding inwardOf
+safe-inward size a [] = safe-done a
+safe-inward size a (v ∷ vs) = safe-bind (safe-put _ v) (λ _. safe-inward size (forwardOf size a 2) vs)
+
+pub safe-outward : (size : ℕ) (a : ByteAddress) (n : ℕ) → Safe (outwardOf size a n)
+unfolding outwardOf
+safe-outward size a zero = safe-done _
+safe-outward size a (suc n) = safe-bind (safe-get _ _) (λ v. safe-bind (safe-outward size (forwardOf size a 2) n) (λ m. safe-done _))
+
+-- ---- a tick
+
+safe-capture : (place : ℕ) (left right : ℤ) (c : Captured) → Safe (captureOf place left right c)
+unfolding captureOf
+safe-capture place left right c = safe-bind (safe-put _ _) (λ _. safe-bind (safe-put _ _) (λ _. safe-bind (safe-put _ _) (λ _. safe-put _ _)))
+
+-- a turn whose reads count unless nothing is written and the output volume is 0
+turn-safe : (regs : List ℕ) (area : Area) (t : Turning) (input : ℤ) (on none : Bool) → t .counted ≡ not (not on && none) → t .writes ≡ on
+    → (none ≡ true → registerAt regs (own regs area t 0x184) ≡ 0) → Safe (turnOf regs area t input)
+turn-safe regs area t input true none c w e = counted-turn regs area t c input
+turn-safe regs area t input false false c w e = counted-turn regs area t c input
+turn-safe regs area t input false true c w e = blind-turn regs area t w input (e refl)
+
+turning-safe : (regs : List ℕ) (area : Area) (right : Bool) (input : ℤ) → Safe (turnOf regs area (turningOf regs right) input)
+unfolding turningOf
+turning-safe regs area right input =
+    turn-safe regs area (turningOf regs right) input (bit 7 (registerAt regs 0x1AA)) _ refl refl (λ e. eqb-true _ _ e)
+
+safe-reverb : (s : State) (sums : Sums) (left right : ℤ) → Safe (reverbOf s sums left right)
+unfolding reverbOf
+safe-reverb s sums left right = safe-bind (turning-safe (s .regs) _ (s .reverb .right) _) (λ out. safe-done _)
+
+pub safe-tick : (s : State) (left right : ℤ) → Safe (tickOf s left right)
+unfolding tickOf
+safe-tick s left right =
+    safe-bind (safe-voices _ (s .regs) _ 24 _) (λ b. safe-bind (safe-capture _ left right _) (λ _. safe-bind (safe-reverb s (b .sums) left right) (λ r. safe-done _)))
