@@ -5,7 +5,6 @@ use Prim.Native.Nat.{ℕ, _+_, _-_, _%_}
 use lib.Dec.{eqb, leb, ltb}
 use lib.ListN.{replicate, set}
 use lib.IntN.{pos}
-use Rattle.envelope.specs.declared.Envelope.{Envelope}
 use Rattle.envelope.specs.Adsr.{active}
 use Rattle.noise.specs.declared.Noise.{Noise}
 use Rattle.soundram.specs.declared.ByteAddress.{ByteAddress}
@@ -58,19 +57,28 @@ freshOf size =
 
 -- ---- "Ranges (number 2)"
 
+-- every test of a list holds
+unfoldable pub allOf : List Bool → Bool
+allOf [] = true
+allOf (b ∷ bs) = b && allOf bs
+
 -- "L one of the two"
 unfoldable pub sizeOk : ℕ → Bool
 sizeOk size = eqb size 0x10000 || eqb size 0x80000
 
--- "envelope 0..7FFFh"; "envelope wait 0..400000h, at least 1 in Attack, Decay, Sustain, Release"
-unfoldable pub envelopeOk : Envelope → Bool
-envelopeOk e = leb (e .level) 0x7FFF && (leb (e .wait) 0x400000 && (not (active (e .phase)) || leb 1 (e .wait)))
-
--- "pitch counter below 1000h; sample index 0..27; voice address a multiple of 8 below L"
+-- "envelope 0..7FFFh"; "envelope wait 0..400000h, at least 1 in Attack, Decay, Sustain, Release"; "pitch counter below 1000h; sample index 0..27;
+-- voice address a multiple of 8 below L"
 unfoldable pub voiceOk : ℕ → Voice → Bool
 voiceOk size v =
-    envelopeOk (v .envelope) && (ltb (v .position .counter) 0x1000 && (leb (v .position .index) 27
-    && (eqb (v .source .address .0 % 8) 0 && ltb (v .source .address .0) size)))
+    allOf
+    (leb (v .envelope .level) 0x7FFF
+    ∷ leb (v .envelope .wait) 0x400000
+    ∷ (not (active (v .envelope .phase)) || leb 1 (v .envelope .wait))
+    ∷ ltb (v .position .counter) 0x1000
+    ∷ leb (v .position .index) 27
+    ∷ eqb (v .source .address .0 % 8) 0
+    ∷ ltb (v .source .address .0) size
+    ∷ [])
 
 unfoldable pub everyOk : ℕ → List Voice → Bool
 everyOk size [] = true
@@ -81,14 +89,20 @@ abbrev pub baseOf : State → ByteAddress
 baseOf s = addressOf (s .choices .size) (record { 0 = registerAt (s .regs) 0x1A2 })
 
 -- "capture place even, below 400h; reverb place even, from its base to L-2; transfer address even, below L; noise timer 0..20000h"
-unfoldable pub placesOk : State → Bool
-placesOk s =
-    eqb (s .capture % 2) 0 && (ltb (s .capture) 0x400
-    && (eqb (s .reverb .place .0 % 2) 0 && (leb (baseOf s .0) (s .reverb .place .0) && (leb (s .reverb .place .0) (s .choices .size - 2)
-    && (eqb (s .transfer .0 % 2) 0 && (ltb (s .transfer .0) (s .choices .size) && leb (s .noise .timer) 0x20000))))))
-
 unfoldable pub stateOk : State → Bool
-stateOk s = sizeOk (s .choices .size) && (everyOk (s .choices .size) (s .voices) && placesOk s)
+stateOk s =
+    allOf
+    (sizeOk (s .choices .size)
+    ∷ everyOk (s .choices .size) (s .voices)
+    ∷ eqb (s .capture % 2) 0
+    ∷ ltb (s .capture) 0x400
+    ∷ eqb (s .reverb .place .0 % 2) 0
+    ∷ leb (baseOf s .0) (s .reverb .place .0)
+    ∷ leb (s .reverb .place .0) (s .choices .size - 2)
+    ∷ eqb (s .transfer .0 % 2) 0
+    ∷ ltb (s .transfer .0) (s .choices .size)
+    ∷ leb (s .noise .timer) 0x20000
+    ∷ [])
 
 -- ---- what accesses watch: "If SPUCNT bits 15 and 6 are set", at the IRQ address
 

@@ -1,0 +1,141 @@
+-- A state passes the tests of number 2 exactly when it is in range. Assumes nothing.
+use mathlib.Core.Path.{_≡_, refl, sym, _∙_}
+use mathlib.Core.Bool.{Bool, true, false, _&&_, _||_, not, false≢true}
+use mathlib.Core.List.{List, [], _∷_}
+use Prim.Native.Nat.{ℕ, zero, suc, _≤_, _<_}
+use native.Mathlib.Omega.{arith}
+use lib.Dec.{eqb, leb}
+use lib.ListN.{length, getD}
+use borrow.Author.Tests.{ltb-true, leb-true, eqb-true, lt-ltb, le-leb, eq-eqb}
+use Rattle.soundram.specs.Address.{Sized}
+use Rattle.voice.specs.declared.Voice.{Voice}
+use Rattle.voice.specs.Range as voice
+use Rattle.voices.specs.Voices.{pastEnd, AllIn}
+use Rattle.chip.specs.declared.State.{State}
+use Rattle.chip.specs.State.{allOf, sizeOk, voiceOk, everyOk, stateOk}
+use Rattle.chip.specs.Range.{Shaped, InRange}
+
+-- ---- lists of tests
+
+pub and-first : (a b : Bool) → (a && b) ≡ true → a ≡ true
+and-first true b e = refl
+and-first false b e = e
+
+and-rest : (a b : Bool) → (a && b) ≡ true → b ≡ true
+and-rest true b e = e
+and-rest false b e = absurd (false≢true e)
+
+data All : List Bool → Type 0 where
+  none : All []
+  more : {a : Bool} {bs : List Bool} → a ≡ true → All bs → All (a ∷ bs)
+
+first : {a : Bool} {bs : List Bool} → All (a ∷ bs) → a ≡ true
+first (more e f) = e
+
+rest : {a : Bool} {bs : List Bool} → All (a ∷ bs) → All bs
+rest (more e f) = f
+
+all-of : {bs : List Bool} → All bs → allOf bs ≡ true
+unfolding allOf
+all-of none = refl
+all-of (more e f) = rw e (all-of f)
+
+of-all : (bs : List Bool) → allOf bs ≡ true → All bs
+unfolding allOf
+of-all [] e = none
+of-all (b ∷ bs) e = more (and-first b _ e) (of-all bs (and-rest b _ e))
+
+-- at least 1, if active
+runs : (a : Bool) (n : ℕ) → (not a || leb 1 n) ≡ true → a ≡ true → 1 ≤ n
+runs true n e t = leb-true 1 n e
+runs false n e t = absurd (false≢true t)
+
+may-run : (a : Bool) (n : ℕ) → (a ≡ true → 1 ≤ n) → (not a || leb 1 n) ≡ true
+may-run true n f = le-leb 1 n (f refl)
+may-run false n f = refl
+
+-- ---- L
+
+pub sized : (size : ℕ) → sizeOk size ≡ true → Sized size
+unfolding sizeOk
+sized size e = by (eqb size 0x10000) (eqb size 0x80000) refl refl e
+  where
+    by : (x y : Bool) → eqb size 0x10000 ≡ x → eqb size 0x80000 ≡ y → (x || y) ≡ true → Sized size
+    by true y p q e = let h = eqb-true size 0x10000 p in record { least = omega arith; most = omega arith; sixteens = omega arith }
+    by false true p q e = let h = eqb-true size 0x80000 q in record { least = omega arith; most = omega arith; sixteens = omega arith }
+    by false false p q e = absurd (false≢true e)
+
+-- ---- voices
+
+voice-in : (size : ℕ) (v : Voice) → voiceOk size v ≡ true → voice.InRange size v
+unfolding voiceOk
+voice-in size v o =
+    let a = of-all _ o in
+    let b = rest a in
+    let c = rest b in
+    let d = rest c in
+    let e = rest d in
+    let f = rest e in
+    let g = rest f in
+    record {
+      envelope = record { level = leb-true _ _ (first a); wait = leb-true _ _ (first b); runs = λ t. runs _ _ (first c) t };
+      counter = ltb-true _ _ (first d);
+      index = leb-true _ _ (first e);
+      multiple = eqb-true _ _ (first f);
+      below = ltb-true _ _ (first g)
+    }
+
+voice-ok : (size : ℕ) (v : Voice) → voice.InRange size v → voiceOk size v ≡ true
+unfolding voiceOk
+voice-ok size v r =
+    all-of (more (le-leb _ _ (r .envelope .level)) (more (le-leb _ _ (r .envelope .wait)) (more (may-run _ _ (r .envelope .runs)) (more (lt-ltb _ _ (r .counter))
+    (more (le-leb _ _ (r .index)) (more (eq-eqb _ _ (r .multiple)) (more (lt-ltb _ _ (r .below)) none)))))))
+
+every-at : (size : ℕ) (vs : List Voice) (n : ℕ) → everyOk size vs ≡ true → n < length vs → voice.InRange size (getD vs n pastEnd)
+unfolding everyOk
+every-at size [] n e h = absurd (omega arith)
+every-at size (v ∷ vs) zero e h = voice-in size v (and-first (voiceOk size v) _ e)
+every-at size (v ∷ vs) (suc n) e h = every-at size vs n (and-rest (voiceOk size v) _ e) (omega arith)
+
+at-every : (size : ℕ) (vs : List Voice) → ((n : ℕ) → n < length vs → voice.InRange size (getD vs n pastEnd)) → everyOk size vs ≡ true
+unfolding everyOk
+at-every size [] f = refl
+at-every size (v ∷ vs) f = rw (voice-ok size v (f 0 (omega arith))) (at-every size vs (λ n h. f (suc n) (omega arith)))
+
+-- ---- the state
+
+pub in-range : (s : State) → stateOk s ≡ true → Shaped s → InRange s
+unfolding stateOk
+in-range s o n =
+    let l = n .voices in
+    let a = of-all _ o in
+    let b = rest a in
+    let c = rest b in
+    let d = rest c in
+    let e = rest d in
+    let f = rest e in
+    let g = rest f in
+    let h = rest g in
+    let i = rest h in
+    let j = rest i in
+    record {
+      shaped = n;
+      size = first a;
+      voices = record { each = λ k h. every-at _ (s .voices) k (first b) (omega arith) };
+      capture-even = eqb-true _ _ (first c);
+      capture = ltb-true _ _ (first d);
+      place-even = eqb-true _ _ (first e);
+      place-least = leb-true _ _ (first f);
+      place-most = leb-true _ _ (first g);
+      transfer-even = eqb-true _ _ (first h);
+      transfer = ltb-true _ _ (first i);
+      noise = record { timer = leb-true _ _ (first j) }
+    }
+
+pub passes : (s : State) → InRange s → stateOk s ≡ true
+unfolding stateOk
+passes s r =
+    let n = r .shaped .voices in
+    all-of (more (r .size) (more (at-every _ (s .voices) (λ k l. r .voices .each k (omega arith))) (more (eq-eqb _ _ (r .capture-even)) (more (lt-ltb _ _ (r .capture))
+    (more (eq-eqb _ _ (r .place-even)) (more (le-leb _ _ (r .place-least)) (more (le-leb _ _ (r .place-most)) (more (eq-eqb _ _ (r .transfer-even))
+    (more (lt-ltb _ _ (r .transfer)) (more (le-leb _ _ (r .noise .timer)) none))))))))))
