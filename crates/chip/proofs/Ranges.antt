@@ -159,10 +159,10 @@ kept-in {s} offset value r even other =
     }
 
 -- an address that a register gives is even, and L-2 at most
-placed-even : {size : ℕ} (u : UnitAddress) → Sized size → addressOf size u .0 % 2 ≡ 0
+pub placed-even : {size : ℕ} (u : UnitAddress) → Sized size → addressOf size u .0 % 2 ≡ 0
 placed-even {size} u z = let m = address-multiple size u (omega arith) in omega arith
 
-placed-most : {size : ℕ} (u : UnitAddress) → Sized size → addressOf size u .0 ≤ size - 2
+pub placed-most : {size : ℕ} (u : UnitAddress) → Sized size → addressOf size u .0 ≤ size - 2
 placed-most {size} u z =
     let m = address-multiple size u (omega arith) in
     let b = address-below size u (omega arith) in

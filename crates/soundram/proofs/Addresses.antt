@@ -7,26 +7,26 @@ use Rattle.soundram.specs.Address.{addressOf, forwardOf}
 use Rattle.soundram.specs.declared.UnitAddress.{UnitAddress}
 use Rattle.soundram.specs.declared.ByteAddress.{ByteAddress}
 
--- a remainder of a multiple of 8 by one
-mod-multiple : (x size : ℕ) → size % 8 ≡ 0 → x % 8 ≡ 0 → x % size % 8 ≡ 0
-mod-multiple x size e p = mod-mod-of-dvd 8 x (dvd-of-mod-eq-zero 8 e) ∙ p
+-- a remainder of a multiple of d by one
+mod-multiple : (d x size : ℕ) → size % d ≡ 0 → x % d ≡ 0 → x % size % d ≡ 0
+mod-multiple d x size e p = mod-mod-of-dvd d x (dvd-of-mod-eq-zero d e) ∙ p
 
 pub address-small : (size : ℕ) (u : UnitAddress) → u .0 * 8 < size → record { 0 = u .0 * 8 } ≡ addressOf size u
 unfolding addressOf
 address-small size u h = rw (mod-eq-of-lt h)
 
--- a unit's address is a multiple of 8, and so is one 8 or 16 bytes on
+-- a unit's address is a multiple of 8; and a multiple stays one, a multiple further on
 pub address-multiple : (size : ℕ) (u : UnitAddress) → size % 8 ≡ 0 → addressOf size u .0 % 8 ≡ 0
 unfolding addressOf
-address-multiple size u e = mod-multiple (u .0 * 8) size e (omega arith)
+address-multiple size u e = mod-multiple 8 (u .0 * 8) size e (omega arith)
 
 pub address-below : (size : ℕ) (u : UnitAddress) → 0 < size → addressOf size u .0 < size
 unfolding addressOf
 address-below size u h = mod-lt (u .0 * 8) h
 
-pub forward-multiple : (size : ℕ) (a : ByteAddress) (k : ℕ) → size % 8 ≡ 0 → a .0 % 8 ≡ 0 → k % 8 ≡ 0 → forwardOf size a k .0 % 8 ≡ 0
+pub forward-multiple : (d size : ℕ) (a : ByteAddress) (k : ℕ) → size % d ≡ 0 → (a .0 + k) % d ≡ 0 → forwardOf size a k .0 % d ≡ 0
 unfolding forwardOf
-forward-multiple size a k e p q = mod-multiple (a .0 + k) size e (omega arith)
+forward-multiple d size a k e p = mod-multiple d (a .0 + k) size e p
 
 pub forward-small : (size : ℕ) (a : ByteAddress) (k : ℕ) → a .0 + k < size → record { 0 = a .0 + k } ≡ forwardOf size a k
 unfolding forwardOf

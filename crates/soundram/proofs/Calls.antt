@@ -1,6 +1,6 @@
 -- Demand 3 of any sound machine. Assumes nothing.
 use mathlib.Core.Path.{_≡_, refl, ap, ap₂, sym, subst, _∙_}
-use mathlib.Core.Bool.{Bool, true, false, _||_, _&&_, not, and-true}
+use mathlib.Core.Bool.{Bool, true, false, _||_, _&&_, not, and-true, false≢true}
 use mathlib.Core.List.{List, [], _∷_}
 use Prim.Native.Nat.{ℕ}
 use lib.ListN.{length}
@@ -96,3 +96,12 @@ module _ {C A S : Type 0} (M : Machine C A S) where
     demand-3 (k ∷ cs) s r t marks c l g =
         subst (λ (n : ℕ). Indistinct (log M (k ∷ cs) s r marks) (outcome M (M .step k s n (length marks)) s t marks ∷ log M cs (outcome M (M .step k s n (length marks)) s t marks .state) (outcome M (M .step k s n (length marks)) s t marks .ram) (outcome M (M .step k s n (length marks)) s t marks .marks))) l
         (more cs (one sound s r t marks c l g (M .step k s (length r) (length marks)) (sound .safe k s (length r) (length marks)) (λ a u e. sound .quiet k s u _ _ a e c)) (demand-3 cs))
+
+-- a core that reports doubt where every counted read met a marked halfword, or reports none where one met an unmarked one, has no place in it
+pub no-idle-doubt : {A S : Type 0} {o p : Outcome A S} {os ps : List (Outcome A S)} → o .doubt ≡ true → anyUnmarked (o .accesses) ≡ false → Indistinct (o ∷ os) (p ∷ ps) → ⊥
+no-idle-doubt r m (both-sure x y l i) = false≢true (sym (x .report) ∙ r)
+no-idle-doubt r m (both-doubt x y) = false≢true (sym m ∙ x .met)
+
+pub no-missed-doubt : {A S : Type 0} {o p : Outcome A S} {os ps : List (Outcome A S)} → o .doubt ≡ false → anyUnmarked (o .accesses) ≡ true → Indistinct (o ∷ os) (p ∷ ps) → ⊥
+no-missed-doubt r m (both-sure x y l i) = false≢true (sym (x .met) ∙ m)
+no-missed-doubt r m (both-doubt x y) = false≢true (sym r ∙ x .report)

@@ -154,7 +154,7 @@ pub data Always {A : Type 0} (P : A → Type 0) : Prog A → Type 0 where
   reading-on : {who : Reader} {c : Bool} {h : ℕ} {k : ℕ → Prog A} → ((v : ℕ) → Always P (k v)) → Always P (read who c h k)
   writing-on : {h v : ℕ} {p : Prog A} → Always P p → Always P (write h v p)
 
-always-run : {A : Type 0} {P : A → Type 0} {p : Prog A} → Always P p → (m : Mem) → P (run p m .answer)
+pub always-run : {A : Type 0} {P : A → Type 0} {p : Prog A} → Always P p → (m : Mem) → P (run p m .answer)
 unfolding run
 always-run (ends q) m = q
 always-run (reading-on f) m = always-run (f _) _

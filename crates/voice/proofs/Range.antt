@@ -85,7 +85,7 @@ next-multiple size s flags z m = by (bit 0 flags)
   where
     by : (c : Bool) → cond c (addressOf size (s .repeat)) (forwardOf size (s .address) 16) .0 % 8 ≡ 0
     by true = address-multiple size (s .repeat) (omega arith)
-    by false = forward-multiple size (s .address) 16 (omega arith) m (omega arith)
+    by false = forward-multiple 8 size (s .address) 16 (omega arith) (omega arith)
 
 next-below : (size : ℕ) (s : Source) (flags : ℕ) → Sized size → s .address .0 < size → nextOf size s flags .address .0 < size
 unfolding nextOf

@@ -1,0 +1,183 @@
+-- Every accepted call leaves a state in range. Assumes nothing.
+use mathlib.Core.Path.{_≡_, refl, sym, ap, subst, _∙_}
+use mathlib.Core.Bool.{Bool, true, false, cond, not, false≢true}
+use mathlib.Core.List.{List, [], _∷_}
+use Prim.Native.Nat.{ℕ, zero, suc, _+_, _-_, _%_, _≤_, _<_}
+use native.Mathlib.Omega.{arith}
+use lib.Dec.{eqb}
+use lib.ListN.{length}
+use lib.IntN.{ℤ}
+use borrow.Author.Tests.{eqb-true, eqb-false, not-false}
+use Rattle.noise.specs.Noise.{tickedOf}
+use Rattle.noise.proofs.Range.{ticked-in}
+use Rattle.soundram.specs.declared.ByteAddress.{ByteAddress}
+use Rattle.soundram.specs.Address.{forwardOf, Sized}
+use Rattle.soundram.specs.declared.Watch.{Watch}
+use Rattle.soundram.specs.Program.{Prog}
+use Rattle.soundram.specs.Calls.{Reply, Doing, still, works, outcome}
+use Rattle.soundram.proofs.Addresses.{forward-multiple, forward-below}
+use Rattle.soundram.proofs.Programs.{Always, ends, always-any, always-bind, always-run}
+use Rattle.registers.specs.Map.{registerAt}
+use Rattle.voices.specs.declared.Sums.{Sums}
+use Rattle.voices.specs.Voices.{Bank}
+use Rattle.voices.proofs.Turns.{BankIn, voices-in}
+use Rattle.chip.specs.declared.Reverb.{Reverb}
+use Rattle.chip.specs.declared.State.{State}
+use Rattle.chip.specs.State.{withReverb, withTransfer, baseOf, stateOk, watchedOf}
+use Rattle.chip.specs.Registers.{listed}
+use Rattle.chip.specs.Range.{Shaped, InRange}
+use Rattle.chip.proofs.Tests.{in-range, sized}
+use Rattle.chip.proofs.Ranges.{placed-even, placed-most, write-in, transfer-in, fresh-state-in}
+use Rattle.spu.specs.Tick.{Pair, placeAfter, reverbAfter, reverbOf, tickOf}
+use Rattle.spu.specs.Transfer.{Moved, inwardOf, outwardOf}
+use Rattle.spu.specs.Step.{Call, write, read, transferIn, transferOut, tick, tickFloats, reset, view, Answer, Test, firstOf, numberOf, refusedOf, acceptedOf, stepOf, chip}
+
+-- ---- transfers
+
+-- an even address below L
+record Even (size : ℕ) (a : ByteAddress) : Type 0 where
+  pub even : a .0 % 2 ≡ 0
+  pub below : a .0 < size
+
+forward-even : {size : ℕ} {a : ByteAddress} → Sized size → Even size a → Even size (forwardOf size a 2)
+forward-even {size} {a} z e =
+    let v = e .even in
+    record { even = forward-multiple 2 size a 2 (omega arith) (omega arith); below = forward-below size a _ 2 refl (e .below) }
+
+inward-even : {size : ℕ} {a : ByteAddress} (vs : List ℕ) → Sized size → Even size a → Always (Even size) (inwardOf size a vs)
+unfolding inwardOf
+inward-even [] z e = ends e
+inward-even (v ∷ vs) z e = always-bind (always-any _) (λ _ _. inward-even vs z (forward-even z e))
+
+outward-even : {size : ℕ} {a : ByteAddress} (n : ℕ) → Sized size → Even size a → Always (λ (m : Moved). Even size (m .address)) (outwardOf size a n)
+unfolding outwardOf
+outward-even zero z e = ends e
+outward-even (suc n) z e = always-bind (always-any _) (λ v _. always-bind (outward-even n z (forward-even z e)) (λ m f. ends f))
+
+-- ---- a tick
+
+-- the reverb's place, from its base to L-2
+record Place (size base place : ℕ) : Type 0 where
+  pub even : place % 2 ≡ 0
+  pub least : base ≤ place
+  pub most : place ≤ size - 2
+
+moved-place : {size base place : ℕ} (right : Bool) → Sized size → base % 2 ≡ 0 → base ≤ size - 2 → Place size base place → Place size base (placeAfter size base right place)
+unfolding placeAfter
+moved-place false z e m p = p
+moved-place {size} {base} {place} true z e m p = by (eqb (place + 2) size) refl
+  where
+    by : (b : Bool) → eqb (place + 2) size ≡ b → Place size base (cond b base (place + 2))
+    by true t = record { even = e; least = omega arith; most = m }
+    by false t =
+        let v = p .even in
+        let l = p .least in
+        let h = p .most in
+        let n = eqb-false (place + 2) size t in
+        record { even = omega arith; least = omega arith; most = omega arith }
+
+reverb-in : {s : State} (sums : Sums) (left right : ℤ) → InRange s → Always (λ (r : Reverb). Place (s .choices .size) (baseOf s .0) (r .place .0)) (reverbOf s sums left right)
+unfolding reverbOf reverbAfter
+reverb-in {s} sums left right r =
+    let z = sized _ (r .size) in
+    always-bind (always-any _) (λ out _. ends (moved-place (s .reverb .right) z (placed-even _ z) (placed-most _ z)
+    (record { even = r .place-even; least = r .place-least; most = r .place-most })))
+
+tick-in : {s : State} (left right : ℤ) → InRange s → Always (λ (a : Reply Pair State). InRange (a .state)) (tickOf s left right)
+unfolding tickOf
+tick-in {s} left right r =
+    let e = r .capture-even in
+    always-bind (voices-in (s .regs) _ 24 _ (sized _ (r .size)) (omega arith) (record { all = r .voices; count = r .shaped .voices })) (λ b i.
+    always-bind (always-any _) (λ _ _.
+    always-bind (reverb-in (b .sums) left right r) (λ v p.
+    ends (record {
+      shaped = record { regs = r .shaped .regs; voices = i .count };
+      size = r .size;
+      voices = i .all;
+      capture-even = omega arith;
+      capture = omega arith;
+      place-even = p .even;
+      place-least = p .least;
+      place-most = p .most;
+      transfer-even = r .transfer-even;
+      transfer = r .transfer;
+      noise = ticked-in (s .noise) _ (r .noise)
+    }))))
+
+-- ---- every call
+
+-- the state that a call leaves, whatever is read
+abbrev Leaves : (State → Type 0) → Doing Answer State → Type 0
+Leaves P (still a t) = P t
+Leaves P (works p) = Always (λ (r : Reply Answer State). P (r .state)) p
+
+-- of a list of tests that gives 0, none applies
+passed-first : (b : Bool) (n : ℕ) (ts : List Test) → firstOf (record { applies = b; number = suc n } ∷ ts) ≡ 0 → b ≡ false
+unfolding firstOf
+passed-first true n ts e = absurd (omega arith)
+passed-first false n ts e = refl
+
+passed-rest : (b : Bool) (n : ℕ) (ts : List Test) → firstOf (record { applies = b; number = suc n } ∷ ts) ≡ 0 → firstOf ts ≡ 0
+unfolding firstOf
+passed-rest true n ts e = absurd (omega arith)
+passed-rest false n ts e = e
+
+accepted-ok : (c : Call) (s : State) (ram marks : ℕ) → numberOf c s ram marks ≡ 0 → stateOk s ≡ true
+unfolding numberOf
+accepted-ok (write offset v) s ram marks e = not-false _ (passed-first _ 1 _ e)
+accepted-ok (read offset) s ram marks e = not-false _ (passed-first _ 1 _ e)
+accepted-ok (transferIn vs) s ram marks e = not-false _ (passed-first _ 1 _ (passed-rest _ 0 _ e))
+accepted-ok (transferOut b) s ram marks e = not-false _ (passed-first _ 1 _ (passed-rest _ 0 _ e))
+accepted-ok (tick left right) s ram marks e = not-false _ (passed-first _ 1 _ (passed-rest _ 0 _ e))
+accepted-ok (tickFloats left right) s ram marks e = not-false _ (passed-first _ 1 _ (passed-rest _ 0 _ e))
+accepted-ok reset s ram marks e = not-false _ (passed-first _ 1 _ e)
+accepted-ok (view a) s ram marks e = not-false _ (passed-first _ 1 _ (passed-rest _ 0 _ e))
+
+accepted-listed : (offset v : ℕ) (s : State) (ram marks : ℕ) → numberOf (write offset v) s ram marks ≡ 0 → listed offset ≡ true
+unfolding numberOf
+accepted-listed offset v s ram marks e = not-false _ (passed-first _ 2 _ (passed-rest _ 1 _ e))
+
+accepted-in : (c : Call) (s : State) (ram marks : ℕ) → numberOf c s ram marks ≡ 0 → InRange s → Leaves InRange (acceptedOf c s)
+unfolding acceptedOf
+accepted-in (write offset v) s ram marks e r = write-in s offset v (accepted-listed offset v s ram marks e) r
+accepted-in (read offset) s ram marks e r = r
+accepted-in (transferIn vs) s ram marks e r =
+    always-bind (inward-even vs (sized _ (r .size)) (record { even = r .transfer-even; below = r .transfer })) (λ a q. ends (transfer-in r (q .even) (q .below)))
+accepted-in (transferOut b) s ram marks e r =
+    always-bind (outward-even (length b) (sized _ (r .size)) (record { even = r .transfer-even; below = r .transfer })) (λ m q. ends (transfer-in r (q .even) (q .below)))
+accepted-in (tick left right) s ram marks e r = always-bind (tick-in left right r) (λ a q. ends q)
+accepted-in (tickFloats left right) s ram marks e r = always-bind (tick-in left right r) (λ a q. ends q)
+accepted-in reset s ram marks e r = fresh-state-in _ (r .size)
+accepted-in (view a) s ram marks e r = r
+
+-- what is watched is none of the ranges
+watched-in : {s : State} (w : Watch) → InRange s → InRange (watchedOf s w)
+unfolding watchedOf
+watched-in w r =
+    record {
+      shaped = record { regs = r .shaped .regs; voices = r .shaped .voices };
+      size = r .size;
+      voices = r .voices;
+      capture-even = r .capture-even;
+      capture = r .capture;
+      place-even = r .place-even;
+      place-least = r .place-least;
+      place-most = r .place-most;
+      transfer-even = r .transfer-even;
+      transfer = r .transfer;
+      noise = r .noise
+    }
+
+left-in : (d : Doing Answer State) (s : State) (ram marks : List ℕ) → Leaves InRange d → InRange (outcome chip d s ram marks .state)
+unfolding outcome
+left-in (still a t) s ram marks l = l
+left-in (works p) s ram marks l = watched-in _ (always-run l _)
+
+-- "a state field outside its range" is never the core's own doing: after an accepted call, the next finds the state in range
+pub stays-in-range : (c : Call) (s : State) (ram marks : List ℕ) → Shaped s → numberOf c s (length ram) (length marks) ≡ 0
+    → InRange (outcome chip (stepOf c s (length ram) (length marks)) s ram marks .state)
+unfolding stepOf
+stays-in-range c s ram marks h e =
+    left-in _ s ram marks
+    (subst (λ (n : ℕ). Leaves InRange (cond (eqb n 0) (acceptedOf c s) (still (refusedOf c n) s))) (sym e)
+    (accepted-in c s (length ram) (length marks) e (in-range s (accepted-ok c s (length ram) (length marks) e) h)))
