@@ -1,3 +1,4 @@
 pub mod Writes
 pub mod Tests
 pub mod Ranges
+pub mod Parts

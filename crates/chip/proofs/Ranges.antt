@@ -83,7 +83,7 @@ revoiced r i =
       place-most = r .place-most;
       transfer-even = r .transfer-even;
       transfer = r .transfer;
-      noise = r .noise
+      noise = r .noise;
     }
 
 -- ---- the effects of a write
@@ -120,7 +120,7 @@ control-in {s} old value r =
       place-most = r .place-most;
       transfer-even = r .transfer-even;
       transfer = r .transfer;
-      noise = written-in (s .noise) old value (r .noise)
+      noise = written-in (s .noise) old value (r .noise);
     }
 
 pub transfer-in : {s : State} {a : ByteAddress} → InRange s → a .0 % 2 ≡ 0 → a .0 < s .choices .size → InRange (withTransfer s a)
@@ -136,7 +136,7 @@ transfer-in r e b =
       place-most = r .place-most;
       transfer-even = e;
       transfer = b;
-      noise = r .noise
+      noise = r .noise;
     }
 
 -- a register that does not move the reverb's base
@@ -155,7 +155,7 @@ kept-in {s} offset value r even other =
       place-most = r .place-most;
       transfer-even = r .transfer-even;
       transfer = r .transfer;
-      noise = r .noise
+      noise = r .noise;
     }
 
 -- an address that a register gives is even, and L-2 at most
@@ -184,7 +184,7 @@ base-in s value r =
       place-most = placed-most _ (sized _ (r .size));
       transfer-even = r .transfer-even;
       transfer = r .transfer;
-      noise = r .noise
+      noise = r .noise;
     }
 
 other-in : (s : State) (offset value : ℕ) → InRange s → offset % 2 ≡ 0 → (offset ≡ 0x1A2 → ⊥) → InRange (writeOf s offset value)
@@ -201,9 +201,9 @@ other-in s offset value r even other =
 pub write-in : (s : State) (offset value : ℕ) → listed offset ≡ true → InRange s → InRange (writeOf s offset value)
 unfolding listed
 write-in s offset value l r = elim (ℕ-discrete offset 0x1A2) [
-    | yes e ↦ subst (λ (k : ℕ). InRange (writeOf s k value)) (sym e) (base-in s value r)
-    | no ne ↦ other-in s offset value r (eqb-true _ _ (and-first (eqb (offset % 2) 0) _ l)) ne
-  ]
+  | yes e ↦ subst (λ (k : ℕ). InRange (writeOf s k value)) (sym e) (base-in s value r)
+  | no ne ↦ other-in s offset value r (eqb-true _ _ (and-first (eqb (offset % 2) 0) _ l)) ne
+]
 
 -- ---- a fresh state
 
@@ -222,5 +222,5 @@ fresh-state-in size e =
       place-most = omega arith;
       transfer-even = refl;
       transfer = omega arith;
-      noise = record { timer = omega arith }
+      noise = record { timer = omega arith };
     }

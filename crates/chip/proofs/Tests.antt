@@ -1,8 +1,9 @@
 -- A state passes the tests of number 2 exactly when it is in range. Assumes nothing.
-use mathlib.Core.Path.{_≡_, refl, sym, _∙_}
+use mathlib.Core.Path.{_≡_, refl, sym, subst}
 use mathlib.Core.Bool.{Bool, true, false, _&&_, _||_, not, false≢true}
 use mathlib.Core.List.{List, [], _∷_}
 use Prim.Native.Nat.{ℕ, zero, suc, _≤_, _<_}
+use native.Mathlib.Decide.{ℕ-discrete}
 use native.Mathlib.Omega.{arith}
 use lib.Dec.{eqb, leb}
 use lib.ListN.{length, getD}
@@ -82,7 +83,7 @@ voice-in size v o =
       counter = ltb-true _ _ (first d);
       index = leb-true _ _ (first e);
       multiple = eqb-true _ _ (first f);
-      below = ltb-true _ _ (first g)
+      below = ltb-true _ _ (first g);
     }
 
 voice-ok : (size : ℕ) (v : Voice) → voice.InRange size v → voiceOk size v ≡ true
@@ -91,23 +92,24 @@ voice-ok size v r =
     all-of (more (le-leb _ _ (r .envelope .level)) (more (le-leb _ _ (r .envelope .wait)) (more (may-run _ _ (r .envelope .runs)) (more (lt-ltb _ _ (r .counter))
     (more (le-leb _ _ (r .index)) (more (eq-eqb _ _ (r .multiple)) (more (lt-ltb _ _ (r .below)) none)))))))
 
-every-at : (size : ℕ) (vs : List Voice) (n : ℕ) → everyOk size vs ≡ true → n < length vs → voice.InRange size (getD vs n pastEnd)
+every-at : (size : ℕ) (vs : List Voice) (n k : ℕ) → everyOk size vs n ≡ true → k < n → voice.InRange size (getD vs k pastEnd)
 unfolding everyOk
-every-at size [] n e h = absurd (omega arith)
-every-at size (v ∷ vs) zero e h = voice-in size v (and-first (voiceOk size v) _ e)
-every-at size (v ∷ vs) (suc n) e h = every-at size vs n (and-rest (voiceOk size v) _ e) (omega arith)
+every-at size vs zero k e h = absurd (omega arith)
+every-at size vs (suc n) k e h = elim (ℕ-discrete k n) [
+  | yes q ↦ subst (λ (i : ℕ). voice.InRange size (getD vs i pastEnd)) (sym q) (voice-in size _ (and-rest (everyOk size vs n) _ e))
+  | no q ↦ every-at size vs n k (and-first (everyOk size vs n) _ e) (omega arith)
+]
 
-at-every : (size : ℕ) (vs : List Voice) → ((n : ℕ) → n < length vs → voice.InRange size (getD vs n pastEnd)) → everyOk size vs ≡ true
+at-every : (size : ℕ) (vs : List Voice) (n : ℕ) → ((k : ℕ) → k < n → voice.InRange size (getD vs k pastEnd)) → everyOk size vs n ≡ true
 unfolding everyOk
-at-every size [] f = refl
-at-every size (v ∷ vs) f = rw (voice-ok size v (f 0 (omega arith))) (at-every size vs (λ n h. f (suc n) (omega arith)))
+at-every size vs zero f = refl
+at-every size vs (suc n) f = rw (at-every size vs n (λ k h. f k (omega arith))) (voice-ok size _ (f n (omega arith)))
 
 -- ---- the state
 
 pub in-range : (s : State) → stateOk s ≡ true → Shaped s → InRange s
 unfolding stateOk
 in-range s o n =
-    let l = n .voices in
     let a = of-all _ o in
     let b = rest a in
     let c = rest b in
@@ -121,7 +123,7 @@ in-range s o n =
     record {
       shaped = n;
       size = first a;
-      voices = record { each = λ k h. every-at _ (s .voices) k (first b) (omega arith) };
+      voices = record { each = λ k h. every-at _ (s .voices) 24 k (first b) h };
       capture-even = eqb-true _ _ (first c);
       capture = ltb-true _ _ (first d);
       place-even = eqb-true _ _ (first e);
@@ -129,13 +131,12 @@ in-range s o n =
       place-most = leb-true _ _ (first g);
       transfer-even = eqb-true _ _ (first h);
       transfer = ltb-true _ _ (first i);
-      noise = record { timer = leb-true _ _ (first j) }
+      noise = record { timer = leb-true _ _ (first j) };
     }
 
 pub passes : (s : State) → InRange s → stateOk s ≡ true
 unfolding stateOk
 passes s r =
-    let n = r .shaped .voices in
-    all-of (more (r .size) (more (at-every _ (s .voices) (λ k l. r .voices .each k (omega arith))) (more (eq-eqb _ _ (r .capture-even)) (more (lt-ltb _ _ (r .capture))
+    all-of (more (r .size) (more (at-every _ (s .voices) 24 (r .voices .each)) (more (eq-eqb _ _ (r .capture-even)) (more (lt-ltb _ _ (r .capture))
     (more (eq-eqb _ _ (r .place-even)) (more (le-leb _ _ (r .place-least)) (more (le-leb _ _ (r .place-most)) (more (eq-eqb _ _ (r .transfer-even))
     (more (lt-ltb _ _ (r .transfer)) (more (le-leb _ _ (r .noise .timer)) none))))))))))

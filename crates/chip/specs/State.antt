@@ -1,9 +1,9 @@
 -- The state: fresh, and in range. Assumes nothing.
 use mathlib.Core.Bool.{Bool, true, false, _&&_, _||_, not}
 use mathlib.Core.List.{List, [], _∷_}
-use Prim.Native.Nat.{ℕ, _+_, _-_, _%_}
+use Prim.Native.Nat.{ℕ, zero, suc, _-_, _%_}
 use lib.Dec.{eqb, leb, ltb}
-use lib.ListN.{replicate, set}
+use lib.ListN.{getD, replicate, set}
 use lib.IntN.{pos}
 use Rattle.envelope.specs.Adsr.{active}
 use Rattle.noise.specs.declared.Noise.{Noise}
@@ -15,6 +15,7 @@ use Rattle.fixed.specs.Bits.{bit}
 use Rattle.registers.specs.Map.{registerAt}
 use Rattle.voice.specs.declared.Voice.{Voice}
 use Rattle.voice.specs.Voice.{fresh}
+use Rattle.voices.specs.Voices.{pastEnd}
 use Rattle.chip.specs.declared.Control.{Control}
 use Rattle.chip.specs.declared.Reverb.{Reverb}
 use Rattle.chip.specs.declared.State.{State}
@@ -80,9 +81,10 @@ voiceOk size v =
     ∷ ltb (v .source .address .0) size
     ∷ [])
 
-unfoldable pub everyOk : ℕ → List Voice → Bool
-everyOk size [] = true
-everyOk size (v ∷ vs) = voiceOk size v && everyOk size vs
+-- the first n of the voices
+unfoldable pub everyOk : ℕ → List Voice → ℕ → Bool
+everyOk size vs zero = true
+everyOk size vs (suc n) = everyOk size vs n && voiceOk size (getD vs n pastEnd)
 
 -- the reverb's base, "1A2h reverb base"
 abbrev pub baseOf : State → ByteAddress
@@ -93,7 +95,7 @@ unfoldable pub stateOk : State → Bool
 stateOk s =
     allOf
     (sizeOk (s .choices .size)
-    ∷ everyOk (s .choices .size) (s .voices)
+    ∷ everyOk (s .choices .size) (s .voices) 24
     ∷ eqb (s .capture % 2) 0
     ∷ ltb (s .capture) 0x400
     ∷ eqb (s .reverb .place .0 % 2) 0

@@ -1,6 +1,10 @@
-// The state of the chip: what it is made of, and its ranges.
+// The state of the chip: what it is made of, fresh, and its ranges.
+ghost use mathlib.Core.Path.{_≡_};
+ghost use Prim.Native.Nat.{_<_};
+ghost use Rattle.chip.specs.State.{freshOf, sizeOk, voiceOk, everyOk, stateOk};
 use noise::Noise;
 use soundram::ByteAddress;
+use soundram::UnitAddress;
 use voice::Voice;
 
 // What is fixed when a state is made.
@@ -37,4 +41,69 @@ pub struct State {
     pub reverb: Reverb,
     pub transfer: ByteAddress,
     pub tick: u32,
+}
+
+impl State {
+    // A state as it is made, for a sound RAM of size bytes.
+    pub fn fresh(size: u32) -> Self
+        ensures { λ r. ⌜ r ≡ freshOf size ⌝ }
+    {
+        let mut regs = [0u16; 256];
+        regs[0xD6] = 4;
+        let v = Voice::fresh();
+        let voices = [v; 24];
+        State {
+            choices: Choices { size },
+            regs,
+            voices,
+            noise: Noise {
+                level: 0,
+                timer: 0x20000,
+            },
+            control: Control {
+                applied: 0,
+                latch: false,
+                doubt: false,
+            },
+            capture: 0,
+            reverb: Reverb {
+                place: ByteAddress(0),
+                right: false,
+                held: Held { left: 0, right: 0 },
+            },
+            transfer: ByteAddress(0),
+            tick: 0,
+        }
+    }
+}
+
+// Whether there is a sound RAM of size bytes.
+pub fn size_ok(size: u32) -> bool
+    ensures { λ r. ⌜ r ≡ sizeOk size ⌝ }
+{
+    (size == 0x10000) | (size == 0x80000)
+}
+
+fn voice_ok(size: u32, v: Voice) -> bool
+    ensures { λ r. ⌜ r ≡ voiceOk size v ⌝ }
+{
+    let e = v.envelope;
+    let phase = e.phase;
+    (v.envelope.level <= 0x7FFF)
+        & ((v.envelope.wait <= 0x400000)
+            & ((!envelope::is_active(phase) | (1 <= v.envelope.wait))
+                & ((v.position.counter < 0x1000)
+                    & ((v.position.index <= 27)
+                        & ((v.source.address.0 % 8 == 0) & (v.source.address.0 < size))))))
+}
+
+fn every_ok(size: u32, voices: [Voice; 24]) -> bool
+    ensures { λ r. ⌜ r ≡ everyOk size voices 24 ⌝ }
+{
+    let mut ok = true;
+    for n in 0..24usize {
+        let v = voices[n];
+        ok = ok & voice_ok(size, v);
+    }
+    ok
 }

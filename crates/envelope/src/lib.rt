@@ -139,7 +139,7 @@ fn clamp(x: i32) -> u16
 }
 
 // Whether the phase has steps.
-fn is_active(phase: Phase) -> bool
+pub fn is_active(phase: Phase) -> bool
     ensures { λ r. ⌜ r ≡ active phase ⌝ }
 {
     match phase {
