@@ -1,18 +1,24 @@
 -- The state's parts, as the code finds them. Assumes nothing.
-use mathlib.Core.Path.{_≡_, refl, subst}
+use mathlib.Core.Path.{_≡_, refl, sym, subst, _∙_}
 use mathlib.Core.Bool.{Bool, true, false, _&&_, _||_, not, and-true}
 use mathlib.Core.List.{List}
-use Prim.Native.Nat.{ℕ, zero, suc, _+_, _%_, _≤_}
+use Prim.Native.Nat.{ℕ, zero, suc, _+_, _-_, _%_, _≤_}
 use native.Mathlib.Omega.{arith}
+use borrow.Author.Tests.{not-true, not-false}
 use lib.Dec.{eqb, leb, ltb}
 use lib.ListN.{getD, replicate, set}
 use lib.IntN.{pos}
 use Rattle.envelope.specs.Adsr.{active}
+use Rattle.soundram.specs.declared.ByteAddress.{ByteAddress}
+use Rattle.soundram.specs.Address.{addressOf, Sized}
+use Rattle.registers.specs.Map.{registerAt, ofVoice}
 use Rattle.voice.specs.declared.Voice.{Voice}
-use Rattle.voice.specs.Voice.{fresh}
+use Rattle.voice.specs.Voice.{fresh, keyedOn, keyedOff, stoppedOf}
 use Rattle.voices.specs.Voices.{pastEnd}
 use Rattle.chip.specs.declared.State.{State}
-use Rattle.chip.specs.State.{freshOf, allOf, voiceOk, everyOk}
+use Rattle.chip.specs.State.{freshOf, allOf, sizeOk, voiceOk, everyOk, baseOf, stateOk}
+use Rattle.chip.specs.Registers.{keyed, stopFirst}
+use Rattle.chip.proofs.Tests.{sized}
 
 pub fresh-as : (size : ℕ) {v : Voice} → v ≡ fresh
     → record {
@@ -44,5 +50,44 @@ pub every-more : (size : ℕ) (vs : List Voice) (n : ℕ) {a b : Bool} → a ≡
 unfolding everyOk
 every-more size vs n e f = let q : n + 1 ≡ suc n = omega arith in rw (q, e, f)
 
-pub every-end : (size : ℕ) (vs : List Voice) (n k : ℕ) {a : Bool} → a ≡ everyOk size vs n → n ≤ k → k ≤ n → a ≡ everyOk size vs k
-every-end size vs n k {a} e l h = let q : n ≡ k = omega arith in subst (λ (i : ℕ). a ≡ everyOk size vs i) q e
+-- the tests of a state, v that of its voices, b its reverb's base
+pub tested-size : (s : State) {z : Bool} → z ≡ sizeOk (s .choices .size) → not z ≡ true → false ≡ stateOk s
+unfolding stateOk allOf
+tested-size s e f = rw (sym e ∙ not-true _ f)
+
+pub tested-sized : (size : ℕ) {z : Bool} → z ≡ sizeOk size → not z ≡ false → Sized size
+tested-sized size e f = sized size (sym e ∙ not-false _ f)
+
+-- the address that a register gives
+pub address-at : (size : ℕ) {u r : ℕ} {b : ByteAddress} → u ≡ r → b ≡ addressOf size (record { 0 = u }) → b ≡ addressOf size (record { 0 = r })
+address-at size e f = rw (f, e)
+
+pub state-tested : (s : State) {z v : Bool} {b : ByteAddress} → z ≡ sizeOk (s .choices .size) → not z ≡ false → v ≡ everyOk (s .choices .size) (s .voices) 24
+    → b ≡ baseOf s
+    → (v && (eqb (s .capture % 2) 0 && (ltb (s .capture) 0x400 && (eqb (s .reverb .place .0 % 2) 0 && (leb (b .0) (s .reverb .place .0)
+    && (leb (s .reverb .place .0) (s .choices .size - 2) && (eqb (s .transfer .0 % 2) 0 && (ltb (s .transfer .0) (s .choices .size) && leb (s .noise .timer) 0x20000))))))))
+    ≡ stateOk s
+unfolding stateOk allOf
+state-tested s e f g h = rw (sym e ∙ not-false _ f, g, h, and-true (leb (s .noise .timer) 0x20000))
+
+pub keyed-yes : (size : ℕ) (regs : List ℕ) (n : ℕ) (v : Voice) {on : Bool} {low high start : ℕ} {w : Voice} → low ≡ ofVoice regs n 8 → high ≡ ofVoice regs n 0xA
+    → start ≡ ofVoice regs n 6 → w ≡ keyedOn size (record { 0 = start }) low high → on ≡ true → w ≡ keyed on size regs n v
+keyed-yes size regs n v l h s w e = rw (e, w, l, h, s)
+
+pub keyed-no : (size : ℕ) (regs : List ℕ) (n : ℕ) (v : Voice) {on : Bool} {low high : ℕ} {w : Voice} → low ≡ ofVoice regs n 8 → high ≡ ofVoice regs n 0xA
+    → w ≡ keyedOff v low high → on ≡ false → w ≡ keyed on size regs n v
+keyed-no size regs n v l h w e = rw (e, w, l, h)
+
+-- ---- loops over the voices
+
+pub stop-none : (vs : List Voice) → vs ≡ stopFirst vs zero
+unfolding stopFirst
+stop-none vs = refl
+
+pub stop-more : (vs : List Voice) (n : ℕ) {ws : List Voice} {w : Voice} → ws ≡ stopFirst vs n → w ≡ stoppedOf (getD ws n pastEnd) → set ws n w ≡ stopFirst vs (n + 1)
+unfolding stopFirst
+stop-more vs n e f = let q : n + 1 ≡ suc n = omega arith in rw (q, f, e)
+
+-- a loop that counted to its end has done as many rounds as it has
+pub to-end : {A : Type 0} (f : ℕ → A) (n k : ℕ) {a : A} → a ≡ f n → n ≤ k → k ≤ n → a ≡ f k
+to-end f n k {a} e l h = let q : n ≡ k = omega arith in subst (λ (i : ℕ). a ≡ f i) q e

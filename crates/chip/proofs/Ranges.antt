@@ -25,7 +25,7 @@ use Rattle.voices.specs.Voices.{pastEnd, AllIn}
 use Rattle.voices.proofs.Turns.{all-set}
 use Rattle.chip.specs.declared.State.{State}
 use Rattle.chip.specs.State.{withRegs, withVoices, withReverb, withTransfer, freshOf, sizeOk, baseOf}
-use Rattle.chip.specs.Registers.{isVoice, listed, isRepeat, onBits, onKeys, keyOn, keyOff, setRepeat, stopAll, setControl, placed, effectOf, writeOf}
+use Rattle.chip.specs.Registers.{isVoice, listed, isRepeat, onBits, onKeys, keyOn, keyOff, setRepeat, repeated, stopFirst, setControl, placed, effectOf, writeOf}
 use Rattle.chip.specs.Range.{Shaped, InRange}
 use Rattle.chip.proofs.Writes.{of-both, of-effects}
 use Rattle.chip.proofs.Tests.{and-first, sized}
@@ -41,7 +41,7 @@ set-in : {size : ℕ} (vs : List Voice) (n : ℕ) {w : Voice} → Voices size vs
 set-in vs n {w} i h r = record { count = length-set vs n w ∙ i .count; all = all-set vs n (i .all) (i .count) h r }
 
 bits-in : {size : ℕ} (f : ℕ → Voice → Voice) (value first n : ℕ) (vs : List Voice) → ((k : ℕ) (v : Voice) → voice.InRange size v → voice.InRange size (f k v))
-    → first + n ≤ 24 → Voices size vs → Voices size (onBits f value first n vs)
+    → first + n ≤ 24 → Voices size vs → Voices size (onBits f value first vs n)
 unfolding onBits
 bits-in f value first zero vs g h i = i
 bits-in {size} f value first (suc n) vs g h i =
@@ -53,19 +53,10 @@ keys-in : {size : ℕ} (f : ℕ → Voice → Voice) (second value : ℕ) (vs : 
 unfolding onKeys
 keys-in {size} f second value vs g i = of-both (Voices size) (eqb second 0) (bits-in f value 0 16 vs g (omega arith) i) (bits-in f value 16 8 vs g (omega arith) i)
 
-stop-count : (vs : List Voice) → length (stopAll vs) ≡ length vs
-unfolding stopAll
-stop-count [] = refl
-stop-count (v ∷ vs) = ap suc (stop-count vs)
-
-stop-at : {size : ℕ} (vs : List Voice) (n : ℕ) → voice.InRange size (getD vs n pastEnd) → voice.InRange size (getD (stopAll vs) n pastEnd)
-unfolding stopAll
-stop-at [] n r = r
-stop-at (v ∷ vs) zero r = stopped-in v r
-stop-at (v ∷ vs) (suc n) r = stop-at vs n r
-
-stop-in : {size : ℕ} (vs : List Voice) → Voices size vs → Voices size (stopAll vs)
-stop-in vs i = record { count = stop-count vs ∙ i .count; all = record { each = λ n h. stop-at vs n (i .all .each n h) } }
+stop-in : {size : ℕ} (n : ℕ) (vs : List Voice) → n ≤ 24 → Voices size vs → Voices size (stopFirst vs n)
+unfolding stopFirst
+stop-in zero vs h i = i
+stop-in (suc n) vs h i = let j = stop-in n vs (omega arith) i in set-in _ n j (omega arith) (stopped-in _ (j .all .each n (omega arith)))
 
 voices-of : {s : State} → InRange s → Voices (s .choices .size) (s .voices)
 voices-of r = record { count = r .shaped .voices; all = r .voices }
@@ -89,7 +80,7 @@ revoiced r i =
 -- ---- the effects of a write
 
 repeat-in : {s : State} (n value : ℕ) → InRange s → n < 24 → InRange (setRepeat s n value)
-unfolding setRepeat
+unfolding setRepeat repeated
 repeat-in {s} n value r h =
     let v = r .voices .each n h in
     revoiced r (set-in (s .voices) n (voices-of r) h (record { envelope = v .envelope; counter = v .counter; index = v .index; multiple = v .multiple; below = v .below }))
@@ -108,7 +99,7 @@ off-in {s} second value r = revoiced r (keys-in _ second value (s .voices) (λ k
 control-in : {s : State} (old value : ℕ) → InRange s → InRange (setControl s old value)
 unfolding setControl
 control-in {s} old value r =
-    let i = of-both (Voices (s .choices .size)) (bit 15 value) (voices-of r) (stop-in (s .voices) (voices-of r)) in
+    let i = of-both (Voices (s .choices .size)) (bit 15 value) (voices-of r) (stop-in 24 (s .voices) (omega arith) (voices-of r)) in
     record {
       shaped = record { regs = r .shaped .regs; voices = i .count };
       size = r .size;

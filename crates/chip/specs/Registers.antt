@@ -12,7 +12,6 @@ use Rattle.soundram.specs.declared.ByteAddress.{ByteAddress}
 use Rattle.soundram.specs.declared.UnitAddress.{UnitAddress}
 use Rattle.soundram.specs.Address.{addressOf}
 use Rattle.registers.specs.Map.{registerAt, ofVoice}
-use Rattle.voice.specs.declared.Source.{Source}
 use Rattle.voice.specs.declared.Voice.{Voice}
 use Rattle.voice.specs.Voice.{keyedOn, keyedOff, stoppedOf}
 use Rattle.voices.specs.Voices.{pastEnd}
@@ -31,7 +30,7 @@ isVoice offset = ltb offset 0x180
 -- "Listed offsets": voices, 180h..19Eh, 1A2h..1AEh, 1B0h..1BAh, 1C0h..1FEh; even
 unfoldable pub listed : ℕ → Bool
 listed offset =
-    eqb (offset % 2) 0 && (between 0 0x19E offset || (between 0x1A2 0x1AE offset || (between 0x1B0 0x1BA offset || between 0x1C0 0x1FE offset)))
+    eqb (offset % 2) 0 && (leb offset 0x19E || (between 0x1A2 0x1AE offset || (between 0x1B0 0x1BA offset || between 0x1C0 0x1FE offset)))
 
 -- "write to 19Ch, 19Eh, 1AEh, 1B8h, 1BAh"
 unfoldable pub readOnly : ℕ → Bool
@@ -53,45 +52,47 @@ notRead offset = eqb offset 0x1A8
 -- ---- what a write does besides keeping the value
 
 -- "Key writes act in the call, on the bits set in the value": f at each of the voices from first on whose bit is set; count is how many there are
-unfoldable pub onBits : (ℕ → Voice → Voice) → ℕ → ℕ → ℕ → List Voice → List Voice
-onBits f value first zero vs = vs
-onBits f value first (suc n) vs =
-    let ws = onBits f value first n vs in
+unfoldable pub onBits : (ℕ → Voice → Voice) → ℕ → ℕ → List Voice → ℕ → List Voice
+onBits f value first vs zero = vs
+onBits f value first vs (suc n) =
+    let ws = onBits f value first vs n in
     cond (bit n value) (set ws (first + n) (f (first + n) (getD ws (first + n) pastEnd))) ws
 
 -- a pair of key registers: voices 0 to 15, then 16 to 23
 unfoldable pub onKeys : (ℕ → Voice → Voice) → ℕ → ℕ → List Voice → List Voice
-onKeys f second value vs = cond (eqb second 0) (onBits f value 0 16 vs) (onBits f value 16 8 vs)
+onKeys f second value vs = cond (eqb second 0) (onBits f value 0 vs 16) (onBits f value 16 vs 8)
+
+-- voice n keyed on or off, by its registers
+abbrev pub keyed : Bool → ℕ → List ℕ → ℕ → Voice → Voice
+keyed true size regs n v = keyedOn size (record { 0 = ofVoice regs n 6 }) (ofVoice regs n 8) (ofVoice regs n 0xA)
+keyed false size regs n v = keyedOff v (ofVoice regs n 8) (ofVoice regs n 0xA)
 
 -- "Key on (SPUCNT bit 15 set)"; "An SPUCNT write with bit 15 clear ..; key on then starts none."
 unfoldable pub keyOn : State → ℕ → ℕ → State
 keyOn s second value =
-    withVoices s
-    (cond (bit 15 (registerAt (s .regs) 0x1AA))
-    (onKeys (λ n v. keyedOn (s .choices .size) (record { 0 = ofVoice (s .regs) n 6 }) (ofVoice (s .regs) n 8) (ofVoice (s .regs) n 0xA)) second value (s .voices))
-    (s .voices))
+    withVoices s (cond (bit 15 (registerAt (s .regs) 0x1AA)) (onKeys (keyed true (s .choices .size) (s .regs)) second value (s .voices)) (s .voices))
 
 unfoldable pub keyOff : State → ℕ → ℕ → State
-keyOff s second value = withVoices s (onKeys (λ n v. keyedOff v (ofVoice (s .regs) n 8) (ofVoice (s .regs) n 0xA)) second value (s .voices))
+keyOff s second value = withVoices s (onKeys (keyed false (s .choices .size) (s .regs)) second value (s .voices))
 
 -- "+Eh the repeat unit"
-unfoldable pub setRepeat : State → ℕ → ℕ → State
-setRepeat s n value =
-    let v = getD (s .voices) n pastEnd in
-    withVoices s
-    (set (s .voices) n
-    (record {
+unfoldable pub repeated : Voice → ℕ → Voice
+repeated v value =
+    record {
       envelope = v .envelope;
       source = record { address = v .source .address; repeat = record { 0 = value } };
       position = v .position;
       playing = v .playing;
       ended = v .ended;
-    }))
+    }
 
--- every voice stopped
-unfoldable pub stopAll : List Voice → List Voice
-stopAll [] = []
-stopAll (v ∷ vs) = stoppedOf v ∷ stopAll vs
+unfoldable pub setRepeat : State → ℕ → ℕ → State
+setRepeat s n value = withVoices s (set (s .voices) n (repeated (getD (s .voices) n pastEnd) value))
+
+-- the first n voices stopped
+unfoldable pub stopFirst : List Voice → ℕ → List Voice
+stopFirst vs zero = vs
+stopFirst vs (suc n) = let ws = stopFirst vs n in set ws n (stoppedOf (getD ws n pastEnd))
 
 -- an SPUCNT write, of the value before it: the noise's timer; bit 15 clear stops the voices; "Writing SPUCNT with bit 6 clear clears the latch."
 unfoldable pub setControl : State → ℕ → ℕ → State
@@ -99,7 +100,7 @@ setControl s old value =
     record {
       choices = s .choices;
       regs = s .regs;
-      voices = cond (bit 15 value) (s .voices) (stopAll (s .voices));
+      voices = cond (bit 15 value) (s .voices) (stopFirst (s .voices) 24);
       noise = writtenOf (s .noise) old value;
       control = record { applied = s .control .applied; latch = s .control .latch && bit 6 value; doubt = s .control .doubt };
       capture = s .capture;

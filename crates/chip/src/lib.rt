@@ -1,6 +1,8 @@
 // The state of the chip: what it is made of, fresh, and its ranges.
 ghost use mathlib.Core.Path.{_≡_};
-ghost use Prim.Native.Nat.{_<_};
+ghost use mathlib.Core.Bool.{true};
+ghost use Prim.Native.Nat.{_+_, _≤_, _<_};
+ghost use Rattle.chip.specs.Registers.{listed as listedAt, readOnly, notWritten, onBits, onKeys, keyed as keyedOf, keyOn, keyOff, repeated as repeatedOf, setRepeat, stopFirst, setControl, effectOf, writeOf, endFlags, statusOf, readOf};
 ghost use Rattle.chip.specs.State.{freshOf, sizeOk, voiceOk, everyOk, stateOk};
 use noise::Noise;
 use soundram::ByteAddress;
@@ -106,4 +108,95 @@ fn every_ok(size: u32, voices: [Voice; 24]) -> bool
         ok = ok & voice_ok(size, v);
     }
     ok
+}
+
+// Whether every field is within its range.
+pub fn ok(s: State) -> bool
+    ensures { λ r. ⌜ r ≡ stateOk s ⌝ }
+{
+    let size = s.choices.size;
+    if !size_ok(size) {
+        return false;
+    }
+    let base = soundram::address_of(size, UnitAddress(registers::at(&s.regs, 0x1A2)));
+    let voices = s.voices;
+    every_ok(size, voices)
+        & ((s.capture % 2 == 0)
+            & ((s.capture < 0x400)
+                & ((s.reverb.place.0 % 2 == 0)
+                    & ((base.0 <= s.reverb.place.0)
+                        & ((s.reverb.place.0 <= size - 2)
+                            & ((s.transfer.0 % 2 == 0)
+                                & ((s.transfer.0 < size) & (s.noise.timer <= 0x20000))))))))
+}
+
+// Which offsets there are, which can only be read, and which values cannot be written.
+
+pub fn listed(offset: u32) -> bool
+    ensures { λ r. ⌜ r ≡ listedAt offset ⌝ }
+{
+    (offset % 2 == 0)
+        & ((offset <= 0x19E)
+            | (((0x1A2 <= offset) & (offset <= 0x1AE))
+                | (((0x1B0 <= offset) & (offset <= 0x1BA))
+                    | ((0x1C0 <= offset) & (offset <= 0x1FE)))))
+}
+
+pub fn read_only(offset: u32) -> bool
+    ensures { λ r. ⌜ r ≡ readOnly offset ⌝ }
+{
+    (offset == 0x19C)
+        | ((offset == 0x19E) | ((offset == 0x1AE) | ((offset == 0x1B8) | (offset == 0x1BA))))
+}
+
+pub fn not_written(offset: u32, value: u16) -> bool
+    ensures { λ r. ⌜ r ≡ notWritten offset value ⌝ }
+{
+    let of_voice = offset < 0x180;
+    let volume = (of_voice & (offset % 16 < 4)) | ((offset == 0x180) | (offset == 0x182));
+    (volume & (value / 0x8000 % 2 == 1))
+        | ((of_voice & (offset % 16 == 0xC))
+            | ((offset == 0x1A8) | ((offset == 0x1AC) & !(value / 2 % 8 == 2))))
+}
+
+// Voice n keyed on or off.
+fn key(on: bool, size: u32, regs: &[u16; 256], n: usize, v: Voice) -> Voice
+    requires { ⌜ (n < 24) × (0 < size) ⌝ }
+    ensures { λ r. ⌜ r ≡ keyedOf on size (now (regs .entry)) n v ⌝ }
+{
+    let low = registers::of_voice(regs, n, 8);
+    let high = registers::of_voice(regs, n, 0xA);
+    if on {
+        return voice::key_on(
+            size,
+            UnitAddress(registers::of_voice(regs, n, 6)),
+            low,
+            high,
+        );
+    }
+    voice::key_off(v, low, high)
+}
+
+// A voice with another repeat unit.
+fn repeated(v: Voice, value: u16) -> Voice
+    ensures { λ r. ⌜ r ≡ repeatedOf v value ⌝ }
+{
+    let u = UnitAddress(value);
+    let mut source = v.source;
+    source.repeat = u;
+    let mut w = v;
+    w.source = source;
+    w
+}
+
+fn stop_all(v: [Voice; 24]) -> [Voice; 24]
+    ensures { λ r. ⌜ r ≡ stopFirst v 24 ⌝ }
+{
+    let mut voices = v;
+    for n in 0..24usize {
+        let x = voices[n];
+        let y = voice::stop(x);
+        voices[n] = y;
+    }
+    voices
 }

@@ -3,7 +3,7 @@ use Prim.Native.Nat.{_-_, _≤_}
 use native.Mathlib.Omega.{arith}
 use borrow.Author.Needs.{needs}
 use Rattle.chip.specs.State.{everyOk}
-use Rattle.chip.proofs.Parts.{every-none, every-more, every-end}
+use Rattle.chip.proofs.Parts.{every-none, every-more, to-end}
 use Rattle.chip.proofs.every_ok.Statement.{statement}
 use Rattle.chip.proofs.every_ok.Tie as tie
 
@@ -35,7 +35,7 @@ loop-again : tie.Need-loop-again Inv-loop μ-loop
 loop-again c = (search needs, every-more _ _ _ (c .before .before .before .loop .inv .1) (c .voice-ok .ensures))
 
 returns : tie.Need-returns Inv-loop μ-loop
-returns c = let v = c .before .loop .inv in every-end _ _ _ _ (v .1) (v .0) (c .loop-test .left)
+returns c = let v = c .before .loop .inv in to-end (everyOk _ _) _ _ (v .1) (v .0) (c .loop-test .left)
 
 pub every-ok-spec : {M : Type 1} → statement M
 every-ok-spec =
