@@ -1,14 +1,17 @@
 -- The state's parts, as the code finds them. Assumes nothing.
 use mathlib.Core.Path.{_≡_, refl, sym, subst, _∙_}
-use mathlib.Core.Bool.{Bool, true, false, _&&_, _||_, not, and-true}
+use mathlib.Core.Bool.{Bool, true, false, cond, _&&_, _||_, not, and-true}
 use mathlib.Core.List.{List}
-use Prim.Native.Nat.{ℕ, zero, suc, _+_, _-_, _%_, _≤_}
+use Prim.Native.Nat.{ℕ, zero, suc, _+_, _-_, _/_, _%_, _≤_}
 use native.Mathlib.Omega.{arith}
-use borrow.Author.Tests.{not-true, not-false}
+use borrow.Author.Tests.{not-true, not-false, eq-eqb, ne-eqb}
 use lib.Dec.{eqb, leb, ltb}
 use lib.ListN.{getD, replicate, set}
 use lib.IntN.{pos}
+use Rattle.fixed.specs.Bits.{bit}
 use Rattle.envelope.specs.Adsr.{active}
+use Rattle.noise.specs.declared.Noise.{Noise}
+use Rattle.noise.specs.Noise.{writtenOf}
 use Rattle.soundram.specs.declared.ByteAddress.{ByteAddress}
 use Rattle.soundram.specs.Address.{addressOf, Sized}
 use Rattle.registers.specs.Map.{registerAt, ofVoice}
@@ -16,8 +19,8 @@ use Rattle.voice.specs.declared.Voice.{Voice}
 use Rattle.voice.specs.Voice.{fresh, keyedOn, keyedOff, stoppedOf}
 use Rattle.voices.specs.Voices.{pastEnd}
 use Rattle.chip.specs.declared.State.{State}
-use Rattle.chip.specs.State.{freshOf, allOf, sizeOk, voiceOk, everyOk, baseOf, stateOk}
-use Rattle.chip.specs.Registers.{keyed, stopFirst}
+use Rattle.chip.specs.State.{withVoices, freshOf, allOf, sizeOk, voiceOk, everyOk, baseOf, stateOk}
+use Rattle.chip.specs.Registers.{onBits, onKeys, keyed, keyOn, keyOff, repeated, setRepeat, stopFirst, setControl}
 use Rattle.chip.proofs.Tests.{sized}
 
 pub fresh-as : (size : ℕ) {v : Voice} → v ≡ fresh
@@ -70,13 +73,16 @@ pub state-tested : (s : State) {z v : Bool} {b : ByteAddress} → z ≡ sizeOk (
 unfolding stateOk allOf
 state-tested s e f g h = rw (sym e ∙ not-false _ f, g, h, and-true (leb (s .noise .timer) 0x20000))
 
-pub keyed-yes : (size : ℕ) (regs : List ℕ) (n : ℕ) (v : Voice) {on : Bool} {low high start : ℕ} {w : Voice} → low ≡ ofVoice regs n 8 → high ≡ ofVoice regs n 0xA
-    → start ≡ ofVoice regs n 6 → w ≡ keyedOn size (record { 0 = start }) low high → on ≡ true → w ≡ keyed on size regs n v
-keyed-yes size regs n v l h s w e = rw (e, w, l, h, s)
+pub key-none : (size : ℕ) (regs : List ℕ) (n : ℕ) (v : Voice) (b on : Bool) → not b ≡ true → v ≡ cond b (keyed on size regs n v) v
+key-none size regs n v b on e = rw (not-true b e)
 
-pub keyed-no : (size : ℕ) (regs : List ℕ) (n : ℕ) (v : Voice) {on : Bool} {low high : ℕ} {w : Voice} → low ≡ ofVoice regs n 8 → high ≡ ofVoice regs n 0xA
-    → w ≡ keyedOff v low high → on ≡ false → w ≡ keyed on size regs n v
-keyed-no size regs n v l h w e = rw (e, w, l, h)
+pub key-on : (size : ℕ) (regs : List ℕ) (n : ℕ) (v : Voice) (b on : Bool) {low high start : ℕ} {w : Voice} → not b ≡ false → low ≡ ofVoice regs n 8
+    → high ≡ ofVoice regs n 0xA → start ≡ ofVoice regs n 6 → w ≡ keyedOn size (record { 0 = start }) low high → on ≡ true → w ≡ cond b (keyed on size regs n v) v
+key-on size regs n v b on f l h s w e = rw (not-false b f, e, w, l, h, s)
+
+pub key-off : (size : ℕ) (regs : List ℕ) (n : ℕ) (v : Voice) (b on : Bool) {low high : ℕ} {w : Voice} → not b ≡ false → low ≡ ofVoice regs n 8
+    → high ≡ ofVoice regs n 0xA → w ≡ keyedOff v low high → on ≡ false → w ≡ cond b (keyed on size regs n v) v
+key-off size regs n v b on f l h w e = rw (not-false b f, e, w, l, h)
 
 -- ---- loops over the voices
 
@@ -91,3 +97,66 @@ stop-more vs n e f = let q : n + 1 ≡ suc n = omega arith in rw (q, f, e)
 -- a loop that counted to its end has done as many rounds as it has
 pub to-end : {A : Type 0} (f : ℕ → A) (n k : ℕ) {a : A} → a ≡ f n → n ≤ k → k ≤ n → a ≡ f k
 to-end f n k {a} e l h = let q : n ≡ k = omega arith in subst (λ (i : ℕ). a ≡ f i) q e
+
+pub bits-none : (f : ℕ → Voice → Voice) (value first : ℕ) (vs : List Voice) → vs ≡ onBits f value first vs zero
+unfolding onBits
+bits-none f value first vs = refl
+
+pub bits-more : (f : ℕ → Voice → Voice) (value first : ℕ) (vs : List Voice) (n : ℕ) {ws : List Voice} {w : Voice} → ws ≡ onBits f value first vs n
+    → w ≡ cond (bit n value) (f (first + n) (getD ws (first + n) pastEnd)) (getD ws (first + n) pastEnd) → set ws (first + n) w ≡ onBits f value first vs (n + 1)
+unfolding onBits
+bits-more f value first vs n e g = let q : n + 1 ≡ suc n = omega arith in rw (q, g, e)
+
+pub keys-first : (f : ℕ → Voice → Voice) (second value : ℕ) (vs : List Voice) {ws : List Voice} → second ≡ 0 → ws ≡ onBits f value 0 vs 16 → ws ≡ onKeys f second value vs
+unfolding onKeys
+keys-first f second value vs e g = rw (g, eq-eqb second 0 e)
+
+pub keys-second : (f : ℕ → Voice → Voice) (second value : ℕ) (vs : List Voice) {ws : List Voice} → (second ≡ 0 → ⊥) → ws ≡ onBits f value 16 vs 8 → ws ≡ onKeys f second value vs
+unfolding onKeys
+keys-second f second value vs e g = rw (g, ne-eqb second 0 e)
+
+-- ---- effects of a write
+
+pub repeat-as : (s : State) (n value : ℕ) {w : Voice} → w ≡ repeated (getD (s .voices) n pastEnd) value → withVoices s (set (s .voices) n w) ≡ setRepeat s n value
+unfolding setRepeat
+repeat-as s n value e = rw e
+
+-- u is SPUCNT
+pub on-as : (s : State) (second value : ℕ) {u : ℕ} {ws : List Voice} → u ≡ registerAt (s .regs) 0x1AA → u / 0x8000 % 2 ≡ 1
+    → ws ≡ onKeys (keyed true (s .choices .size) (s .regs)) second value (s .voices) → withVoices s ws ≡ keyOn s second value
+unfolding keyOn
+on-as s second value e t g = rw (← e, eq-eqb _ 1 t, g)
+
+pub on-none : (s : State) (second value : ℕ) {u : ℕ} → u ≡ registerAt (s .regs) 0x1AA → (u / 0x8000 % 2 ≡ 1 → ⊥) → s ≡ keyOn s second value
+unfolding keyOn
+on-none s second value {u} e t = rw (← e, ne-eqb (u / 0x8000 % 2) 1 t)
+
+pub off-as : (s : State) (second value : ℕ) {ws : List Voice} → ws ≡ onKeys (keyed false (s .choices .size) (s .regs)) second value (s .voices)
+    → withVoices s ws ≡ keyOff s second value
+unfolding keyOff
+off-as s second value e = rw e
+
+-- SPUCNT written: n is the noise, vs the voices after it
+abbrev controlled : State → ℕ → Noise → List Voice → State
+controlled s value n vs =
+    record {
+      choices = s .choices;
+      regs = s .regs;
+      voices = vs;
+      noise = n;
+      control = record { applied = s .control .applied; latch = s .control .latch && bit 6 value; doubt = s .control .doubt };
+      capture = s .capture;
+      reverb = s .reverb;
+      transfer = s .transfer;
+      tick = s .tick;
+    }
+
+pub control-on : (s : State) (old value : ℕ) {n : Noise} → n ≡ writtenOf (s .noise) old value → value / 0x8000 % 2 ≡ 1
+    → controlled s value n (s .voices) ≡ setControl s old value
+unfolding setControl
+control-on s old value e t = rw (eq-eqb (value / 0x8000 % 2) 1 t, e)
+
+pub control-off : (s : State) (old value : ℕ) {n : Noise} {vs : List Voice} → n ≡ writtenOf (s .noise) old value → (value / 0x8000 % 2 ≡ 1 → ⊥)
+    → vs ≡ stopFirst (s .voices) 24 → controlled s value n vs ≡ setControl s old value
+unfolding setControl
+control-off s old value e t g = rw (ne-eqb (value / 0x8000 % 2) 1 t, e, g)

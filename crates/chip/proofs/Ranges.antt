@@ -46,7 +46,8 @@ unfolding onBits
 bits-in f value first zero vs g h i = i
 bits-in {size} f value first (suc n) vs g h i =
     let j = bits-in f value first n vs g (omega arith) i in
-    of-both (Voices size) (bit n value) (set-in _ (first + n) j (omega arith) (g (first + n) _ (j .all .each (first + n) (omega arith)))) j
+    let r = j .all .each (first + n) (omega arith) in
+    set-in _ (first + n) j (omega arith) (of-both (voice.InRange size) (bit n value) (g (first + n) _ r) r)
 
 keys-in : {size : ℕ} (f : ℕ → Voice → Voice) (second value : ℕ) (vs : List Voice) → ((k : ℕ) (v : Voice) → voice.InRange size v → voice.InRange size (f k v))
     → Voices size vs → Voices size (onKeys f second value vs)

@@ -51,12 +51,13 @@ notRead offset = eqb offset 0x1A8
 
 -- ---- what a write does besides keeping the value
 
--- "Key writes act in the call, on the bits set in the value": f at each of the voices from first on whose bit is set; count is how many there are
+-- "Key writes act in the call, on the bits set in the value": f at each of n voices from first on whose bit is set
 unfoldable pub onBits : (ℕ → Voice → Voice) → ℕ → ℕ → List Voice → ℕ → List Voice
 onBits f value first vs zero = vs
 onBits f value first vs (suc n) =
     let ws = onBits f value first vs n in
-    cond (bit n value) (set ws (first + n) (f (first + n) (getD ws (first + n) pastEnd))) ws
+    let v = getD ws (first + n) pastEnd in
+    set ws (first + n) (cond (bit n value) (f (first + n) v) v)
 
 -- a pair of key registers: voices 0 to 15, then 16 to 23
 unfoldable pub onKeys : (ℕ → Voice → Voice) → ℕ → ℕ → List Voice → List Voice

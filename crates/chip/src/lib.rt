@@ -1,6 +1,6 @@
 // The state of the chip: what it is made of, fresh, and its ranges.
 ghost use mathlib.Core.Path.{_≡_};
-ghost use mathlib.Core.Bool.{true};
+ghost use mathlib.Core.Bool.{true, cond};
 ghost use Prim.Native.Nat.{_+_, _≤_, _<_};
 ghost use Rattle.chip.specs.Registers.{listed as listedAt, readOnly, notWritten, onBits, onKeys, keyed as keyedOf, keyOn, keyOff, repeated as repeatedOf, setRepeat, stopFirst, setControl, effectOf, writeOf, endFlags, statusOf, readOf};
 ghost use Rattle.chip.specs.State.{freshOf, sizeOk, voiceOk, everyOk, stateOk};
@@ -159,11 +159,14 @@ pub fn not_written(offset: u32, value: u16) -> bool
             | ((offset == 0x1A8) | ((offset == 0x1AC) & !(value / 2 % 8 == 2))))
 }
 
-// Voice n keyed on or off.
-fn key(on: bool, size: u32, regs: &[u16; 256], n: usize, v: Voice) -> Voice
+// Voice n keyed on or off, if its bit is set.
+fn key(bit: bool, on: bool, size: u32, regs: &[u16; 256], n: usize, v: Voice) -> Voice
     requires { ⌜ (n < 24) × (0 < size) ⌝ }
-    ensures { λ r. ⌜ r ≡ keyedOf on size (now (regs .entry)) n v ⌝ }
+    ensures { λ r. ⌜ r ≡ cond bit (keyedOf on size (now (regs .entry)) n v) v ⌝ }
 {
+    if !bit {
+        return v;
+    }
     let low = registers::of_voice(regs, n, 8);
     let high = registers::of_voice(regs, n, 0xA);
     if on {
@@ -199,4 +202,108 @@ fn stop_all(v: [Voice; 24]) -> [Voice; 24]
         voices[n] = y;
     }
     voices
+}
+
+// The voices from first on whose bits are set in value, of count bits.
+fn on_bits(
+    on: bool,
+    size: u32,
+    regs: &[u16; 256],
+    value: u16,
+    first: usize,
+    v: [Voice; 24],
+    count: usize,
+) -> [Voice; 24]
+    requires { ⌜ (first + count ≤ 24) × (count ≤ 16) × (0 < size) ⌝ }
+    ensures { λ r. ⌜ r ≡ onBits (keyedOf on size (now (regs .entry))) value first v count ⌝ }
+{
+    let mut voices = v;
+    for k in 0..count {
+        let n = first + k;
+        let x = voices[n];
+        let y = key((value >> k) % 2 == 1, on, size, regs, n, x);
+        voices[n] = y;
+    }
+    voices
+}
+
+// A pair of key registers.
+fn on_keys(
+    on: bool,
+    size: u32,
+    regs: &[u16; 256],
+    second: u32,
+    value: u16,
+    voices: [Voice; 24],
+) -> [Voice; 24]
+    requires { ⌜ 0 < size ⌝ }
+    ensures { λ r. ⌜ r ≡ onKeys (keyedOf on size (now (regs .entry))) second value voices ⌝ }
+{
+    if second == 0 {
+        return on_bits(on, size, regs, value, 0, voices, 16);
+    }
+    on_bits(on, size, regs, value, 16, voices, 8)
+}
+
+fn key_on(s: State, second: u32, value: u16) -> State
+    requires { ⌜ 0 < s .choices .size ⌝ }
+    ensures { λ r. ⌜ r ≡ keyOn s second value ⌝ }
+{
+    if registers::at(&s.regs, 0x1AA) / 0x8000 % 2 == 1 {
+        let size = s.choices.size;
+        let old = s.voices;
+        let voices = on_keys(true, size, &s.regs, second, value, old);
+        let mut t = s;
+        t.voices = voices;
+        return t;
+    }
+    s
+}
+
+fn key_off(s: State, second: u32, value: u16) -> State
+    requires { ⌜ 0 < s .choices .size ⌝ }
+    ensures { λ r. ⌜ r ≡ keyOff s second value ⌝ }
+{
+    let size = s.choices.size;
+    let old = s.voices;
+    let voices = on_keys(false, size, &s.regs, second, value, old);
+    let mut t = s;
+    t.voices = voices;
+    t
+}
+
+fn set_repeat(s: State, n: usize, value: u16) -> State
+    requires { ⌜ n < 24 ⌝ }
+    ensures { λ r. ⌜ r ≡ setRepeat s n value ⌝ }
+{
+    let mut voices = s.voices;
+    let x = voices[n];
+    let y = repeated(x, value);
+    voices[n] = y;
+    let mut t = s;
+    t.voices = voices;
+    t
+}
+
+// What a write to SPUCNT does, of its old and its new value.
+fn set_control(s: State, old: u16, value: u16) -> State
+    ensures { λ r. ⌜ r ≡ setControl s old value ⌝ }
+{
+    let n = s.noise;
+    let noise = noise::write(n, old, value);
+    let control = Control {
+        applied: s.control.applied,
+        latch: s.control.latch & (value / 0x40 % 2 == 1),
+        doubt: s.control.doubt,
+    };
+    let mut t = s;
+    t.noise = noise;
+    t.control = control;
+    if value / 0x8000 % 2 == 1 {
+        return t;
+    }
+    let before = s.voices;
+    let voices = stop_all(before);
+    t.voices = voices;
+    t
 }
