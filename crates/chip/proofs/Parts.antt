@@ -2,13 +2,16 @@
 use mathlib.Core.Path.{_≡_, refl, sym, subst, _∙_}
 use mathlib.Core.Bool.{Bool, true, false, cond, _&&_, _||_, not, and-true}
 use mathlib.Core.List.{List}
-use Prim.Native.Nat.{ℕ, zero, suc, _+_, _-_, _/_, _%_, _≤_}
+use Prim.Native.Nat.{ℕ, zero, suc, _+_, _-_, _*_, _/_, _%_, _^_, _≤_, _<_}
+use native.Mathlib.Nat.{pow-suc, lt-of-lt-of-le}
 use native.Mathlib.Omega.{arith}
-use borrow.Author.Tests.{not-true, not-false, eq-eqb, ne-eqb}
+use borrow.Author.Tests.{not-true, not-false, ltb-true, leb-true, eq-eqb, ne-eqb}
 use lib.Dec.{eqb, leb, ltb}
+use lib.Pow.{pow-mono}
 use lib.ListN.{getD, replicate, set}
 use lib.IntN.{pos}
 use Rattle.fixed.specs.Bits.{bit}
+use Rattle.fixed.proofs.Bits.{one-shl}
 use Rattle.envelope.specs.Adsr.{active}
 use Rattle.noise.specs.declared.Noise.{Noise}
 use Rattle.noise.specs.Noise.{writtenOf}
@@ -19,9 +22,9 @@ use Rattle.voice.specs.declared.Voice.{Voice}
 use Rattle.voice.specs.Voice.{fresh, keyedOn, keyedOff, stoppedOf}
 use Rattle.voices.specs.Voices.{pastEnd}
 use Rattle.chip.specs.declared.State.{State}
-use Rattle.chip.specs.State.{withVoices, freshOf, allOf, sizeOk, voiceOk, everyOk, baseOf, stateOk}
-use Rattle.chip.specs.Registers.{onBits, onKeys, keyed, keyOn, keyOff, repeated, setRepeat, stopFirst, setControl}
-use Rattle.chip.proofs.Tests.{sized}
+use Rattle.chip.specs.State.{withRegs, withVoices, withReverb, withTransfer, freshOf, allOf, sizeOk, voiceOk, everyOk, baseOf, stateOk}
+use Rattle.chip.specs.Registers.{onBits, onKeys, keyed, keyOn, keyOff, repeated, setRepeat, stopFirst, setControl, isRepeat, isKeyOn, isKeyOff, placed, effectOf, between, listed, writeOf, endFlags}
+use Rattle.chip.proofs.Tests.{and-first, and-rest, sized}
 
 pub fresh-as : (size : ℕ) {v : Voice} → v ≡ fresh
     → record {
@@ -160,3 +163,98 @@ pub control-off : (s : State) (old value : ℕ) {n : Noise} {vs : List Voice} �
     → vs ≡ stopFirst (s .voices) 24 → controlled s value n vs ≡ setControl s old value
 unfolding setControl
 control-off s old value e t g = rw (ne-eqb (value / 0x8000 % 2) 1 t, e, g)
+
+-- which effect is taken, by the tests in order
+module _ (s : State) (offset old value : ℕ) {w : State} where
+  pub effect-repeat : isRepeat offset ≡ true → w ≡ setRepeat s (offset / 16) value → w ≡ effectOf s offset old value
+  unfolding effectOf
+  effect-repeat a e = rw (a, e)
+
+  pub effect-on : isRepeat offset ≡ false → isKeyOn offset ≡ true → w ≡ keyOn s (offset - 0x188) value → w ≡ effectOf s offset old value
+  unfolding effectOf
+  effect-on a b e = rw (a, b, e)
+
+  pub effect-off : isRepeat offset ≡ false → isKeyOn offset ≡ false → isKeyOff offset ≡ true → w ≡ keyOff s (offset - 0x18C) value → w ≡ effectOf s offset old value
+  unfolding effectOf
+  effect-off a b c e = rw (a, b, c, e)
+
+pub effect-base : (s : State) (offset old value : ℕ) {a : ByteAddress} → offset ≡ 0x1A2 → a ≡ placed s value
+    → withReverb s (record { place = a; right = s .reverb .right; held = s .reverb .held }) ≡ effectOf s offset old value
+unfolding effectOf
+effect-base s offset old value e f = rw (e, f)
+
+pub effect-transfer : (s : State) (offset old value : ℕ) {a : ByteAddress} → offset ≡ 0x1A6 → a ≡ placed s value → withTransfer s a ≡ effectOf s offset old value
+unfolding effectOf
+effect-transfer s offset old value e f = rw (e, f)
+
+pub effect-control : (s : State) (offset old value : ℕ) {w : State} → offset ≡ 0x1AA → w ≡ setControl s old value → w ≡ effectOf s offset old value
+unfolding effectOf
+effect-control s offset old value e f = rw (e, f)
+
+pub effect-none : (s : State) (offset old value : ℕ) → isRepeat offset ≡ false → isKeyOn offset ≡ false → isKeyOff offset ≡ false → (offset ≡ 0x1A2 → ⊥) → (offset ≡ 0x1A6 → ⊥)
+    → (offset ≡ 0x1AA → ⊥) → s ≡ effectOf s offset old value
+unfolding effectOf
+effect-none s offset old value a b c d e f = rw (a, b, c, ne-eqb offset 0x1A2 d, ne-eqb offset 0x1A6 e, ne-eqb offset 0x1AA f)
+
+-- the voice of an offset, and how far a key register lies from its pair's first
+pub voice-number : (offset : ℕ) → isRepeat offset ≡ true → offset / 16 < 24
+voice-number offset e = omega (arith, ltb-true offset 0x180 (and-first (ltb offset 0x180) _ e))
+
+pub from-on : (offset : ℕ) → isKeyOn offset ≡ true → 0x188 ≤ offset
+from-on offset e = leb-true 0x188 offset (and-first (leb 0x188 offset) _ e)
+
+pub from-off : (offset : ℕ) → isKeyOff offset ≡ true → 0x18C ≤ offset
+from-off offset e = leb-true 0x18C offset (and-first (leb 0x18C offset) _ e)
+
+or-either : {P : Type 0} (a b : Bool) → (a ≡ true → P) → (b ≡ true → P) → (a || b) ≡ true → P
+or-either true b p q e = p refl
+or-either false b p q e = q e
+
+-- a listed offset is one of the 256 registers
+pub listed-below : (offset : ℕ) → listed offset ≡ true → offset < 512
+unfolding listed
+listed-below offset e =
+    or-either (leb offset 0x19E) _ (λ t. at-most 0x19E (omega arith) t)
+    (or-either (between 0x1A2 0x1AE offset) _ (λ t. at-most 0x1AE (omega arith) (and-rest (leb 0x1A2 offset) _ t))
+    (or-either (between 0x1B0 0x1BA offset) _ (λ t. at-most 0x1BA (omega arith) (and-rest (leb 0x1B0 offset) _ t)) (λ t. at-most 0x1FE (omega arith) (and-rest (leb 0x1C0 offset) _ t))))
+    (and-rest (eqb (offset % 2) 0) _ e)
+  where
+    at-most : (n : ℕ) → n < 512 → leb offset n ≡ true → offset < 512
+    at-most n h t = omega (arith, leb-true offset n t)
+
+pub write-as : (s : State) (offset value : ℕ) {old : ℕ} {w : State} → old ≡ registerAt (s .regs) offset
+    → w ≡ effectOf (withRegs s (set (s .regs) (offset / 2) value)) offset old value → w ≡ writeOf s offset value
+unfolding writeOf
+write-as s offset value e f = rw (f, e)
+
+-- ---- end flags
+
+pub flag-set : (ended : Bool) (k : ℕ) → ended ≡ true → k < 16 → 1 * 2 ^ k % 2 ^ 16 ≡ cond ended (2 ^ k) 0
+flag-set ended k e h = rw e (one-shl 16 k h)
+
+flag-most : (b : Bool) (n : ℕ) → cond b n 0 ≤ n
+flag-most true n = omega arith
+flag-most false n = omega arith
+
+flags-below : (vs : List Voice) (first n : ℕ) → endFlags vs first n < 2 ^ n
+unfolding endFlags
+flags-below vs first zero = omega arith
+flags-below vs first (suc n) =
+    let l = flags-below vs first n in
+    let m = flag-most (getD vs (first + n) pastEnd .ended) (2 ^ n) in
+    rw (pow-suc 2 n) (omega arith)
+
+pub flags-none : (vs : List Voice) (first : ℕ) → 0 ≡ endFlags vs first zero
+unfolding endFlags
+flags-none vs first = refl
+
+pub flags-more : (vs : List Voice) (first k : ℕ) {a b : ℕ} → a ≡ endFlags vs first k → b ≡ cond (getD vs (first + k) pastEnd .ended) (2 ^ k) 0
+    → a + b ≡ endFlags vs first (k + 1)
+unfolding endFlags
+flags-more vs first k e f = let q : k + 1 ≡ suc k = omega arith in rw (q, e, f)
+
+pub flags-fit : (vs : List Voice) (first k : ℕ) {a b : ℕ} → a ≡ endFlags vs first k → b ≡ cond (getD vs (first + k) pastEnd .ended) (2 ^ k) 0 → k < 16 → a + b < 2 ^ 16
+flags-fit vs first k e f h =
+    let l = flags-below vs first (k + 1) in
+    let m = pow-mono {i = k + 1} {j = 16} (omega arith) in
+    rw (flags-more vs first k e f) (lt-of-lt-of-le l m)

@@ -29,6 +29,7 @@ use Rattle.chip.specs.Registers.{isVoice, listed, isRepeat, onBits, onKe
 use Rattle.chip.specs.Range.{Shaped, InRange}
 use Rattle.chip.proofs.Writes.{of-both, of-effects}
 use Rattle.chip.proofs.Tests.{and-first, sized}
+use Rattle.chip.proofs.Parts.{voice-number}
 
 -- ---- voices
 
@@ -184,11 +185,8 @@ unfolding writeOf
 other-in s offset value r even other =
     let k = kept-in offset value r even other in
     let z = sized _ (r .size) in
-    of-effects InRange _ offset _ value (λ e. repeat-in (offset / 16) value k (voice-number offset (and-first (isVoice offset) _ e))) (on-in _ value k) (off-in _ value k)
+    of-effects InRange _ offset _ value (λ e. repeat-in (offset / 16) value k (voice-number offset e)) (on-in _ value k) (off-in _ value k)
     (λ e. absurd (other (eqb-true offset 0x1A2 e))) (transfer-in k (placed-even _ z) (address-below _ _ (omega arith))) (control-in _ value k) k
-  where
-    voice-number : (offset : ℕ) → isVoice offset ≡ true → offset / 16 < 24
-    voice-number offset e = omega (arith, ltb-true offset 0x180 e)
 
 pub write-in : (s : State) (offset value : ℕ) → listed offset ≡ true → InRange s → InRange (writeOf s offset value)
 unfolding listed

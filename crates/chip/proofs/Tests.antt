@@ -22,7 +22,7 @@ pub and-first : (a b : Bool) → (a && b) ≡ true → a ≡ true
 and-first true b e = refl
 and-first false b e = e
 
-and-rest : (a b : Bool) → (a && b) ≡ true → b ≡ true
+pub and-rest : (a b : Bool) → (a && b) ≡ true → b ≡ true
 and-rest true b e = e
 and-rest false b e = absurd (false≢true e)
 

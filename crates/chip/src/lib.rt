@@ -1,8 +1,8 @@
 // The state of the chip: what it is made of, fresh, and its ranges.
 ghost use mathlib.Core.Path.{_≡_};
 ghost use mathlib.Core.Bool.{true, cond};
-ghost use Prim.Native.Nat.{_+_, _≤_, _<_};
-ghost use Rattle.chip.specs.Registers.{listed as listedAt, readOnly, notWritten, onBits, onKeys, keyed as keyedOf, keyOn, keyOff, repeated as repeatedOf, setRepeat, stopFirst, setControl, effectOf, writeOf, endFlags, statusOf, readOf};
+ghost use Prim.Native.Nat.{_+_, _^_, _≤_, _<_};
+ghost use Rattle.chip.specs.Registers.{listed as listedAt, readOnly, notWritten, onBits, onKeys, keyed as keyedOf, keyOn, keyOff, repeated as repeatedOf, setRepeat, stopFirst, setControl, placed as placedAt, effectOf, writeOf, endFlags, statusOf, readOf};
 ghost use Rattle.chip.specs.State.{freshOf, sizeOk, voiceOk, everyOk, stateOk};
 use noise::Noise;
 use soundram::ByteAddress;
@@ -306,4 +306,84 @@ fn set_control(s: State, old: u16, value: u16) -> State
     let voices = stop_all(before);
     t.voices = voices;
     t
+}
+
+// The address that a value gives, for the reverb's base or a transfer.
+fn placed(s: State, value: u16) -> ByteAddress
+    requires { ⌜ 0 < s .choices .size ⌝ }
+    ensures { λ r. ⌜ r ≡ placedAt s value ⌝ }
+{
+    soundram::address_of(s.choices.size, UnitAddress(value))
+}
+
+// What a write does besides keeping the value.
+fn effect(s: State, offset: u32, old: u16, value: u16) -> State
+    requires { ⌜ 0 < s .choices .size ⌝ }
+    ensures { λ r. ⌜ r ≡ effectOf s offset old value ⌝ }
+{
+    if (offset < 0x180) & (offset % 16 == 0xE) {
+        return set_repeat(s, (offset / 16) as usize, value);
+    }
+    if (0x188 <= offset) & (offset <= 0x18A) {
+        return key_on(s, offset - 0x188, value);
+    }
+    if (0x18C <= offset) & (offset <= 0x18E) {
+        return key_off(s, offset - 0x18C, value);
+    }
+    if offset == 0x1A2 {
+        let place = placed(s, value);
+        let mut reverb = s.reverb;
+        reverb.place = place;
+        let mut t = s;
+        t.reverb = reverb;
+        return t;
+    }
+    if offset == 0x1A6 {
+        let place = placed(s, value);
+        let mut t = s;
+        t.transfer = place;
+        return t;
+    }
+    if offset == 0x1AA {
+        return set_control(s, old, value);
+    }
+    s
+}
+
+// A register write that is not refused.
+pub fn write(s: State, offset: u32, value: u16) -> State
+    requires { ⌜ (0 < s .choices .size) × (listedAt offset ≡ true) ⌝ }
+    ensures { λ r. ⌜ r ≡ writeOf s offset value ⌝ }
+{
+    let i = offset as usize;
+    let old = registers::at(&s.regs, i);
+    let mut regs = s.regs;
+    regs[i / 2] = value;
+    let mut t = s;
+    t.regs = regs;
+    effect(t, offset, old, value)
+}
+
+// The flag of a voice's end, as bit k.
+fn end_flag(ended: bool, k: usize) -> u16
+    requires { ⌜ k < 16 ⌝ }
+    ensures { λ r. ⌜ r ≡ cond ended (2 ^ k) 0 ⌝ }
+{
+    if ended {
+        return 1 << k;
+    }
+    0
+}
+
+// The end flags of count voices from first on.
+fn end_flags(voices: [Voice; 24], first: usize, count: usize) -> u16
+    requires { ⌜ (first + count ≤ 24) × (count ≤ 16) ⌝ }
+    ensures { λ r. ⌜ r ≡ endFlags voices first count ⌝ }
+{
+    let mut flags = 0u16;
+    for k in 0..count {
+        let v = voices[first + k];
+        flags = flags + end_flag(v.ended, k);
+    }
+    flags
 }
