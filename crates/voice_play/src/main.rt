@@ -84,6 +84,12 @@ const HIGHS: [u16; 14] = [0, 0x5FC0, 0, 0, 0, 0, 0, 0, 0, 0, 0xC1E5, 0x0021, 0, 
 
 const TICKS: [u32; 14] = [70, 120, 40, 8, 40, 40, 20, 60, 60, 20, 90, 60, 40, 60];
 
+// A voice between two ticks, and what its reads noticed.
+struct Played {
+    voice: Voice,
+    watch: Watch,
+}
+
 fn unwatched() -> Watch {
     Watch {
         armed: false,
@@ -93,21 +99,37 @@ fn unwatched() -> Watch {
     }
 }
 
+// A halfword of two bytes.
+fn halfword(low: u8, high: u8) -> u16 {
+    low as u16 + high as u16 * 256
+}
+
+// The byte after another in a block's data.
+fn after(x: u8) -> u8 {
+    ((x as u32 * 5 + 17) % 256) as u8
+}
+
+fn block_at(k: usize) -> ByteAddress
+    requires { ⌜ k < 8 ⌝ }
+    ensures { λ r. ⌜ r .0 < 0x10000 ⌝ }
+{
+    ByteAddress(ADDRESSES[k] % SIZE)
+}
+
 // A block is its header, its flags, and 14 bytes from the seed on.
 fn put_block(ram: &mut [u8], marks: &mut [u8], k: usize)
     requires { ⌜ Lent 0x10000 (now ram) (now marks) × (k < 8) ⌝ }
 {
-    let a = ADDRESSES[k];
-    let mut low = HEADERS[k] as u32;
-    let mut high = FLAGS[k] as u32;
-    let mut x = SEEDS[k] as u32;
+    let a = block_at(k);
+    let mut low = HEADERS[k];
+    let mut high = FLAGS[k];
+    let mut x = SEEDS[k];
     for i in 0..8u32 {
-        let v = (low % 256 + high % 256 * 256) as u16;
-        let at = soundram::forward(SIZE, ByteAddress(a % SIZE), i * 2);
-        soundram::write(ram, marks, at, v, unwatched());
+        let at = soundram::forward(SIZE, a, i * 2);
+        soundram::write(ram, marks, at, halfword(low, high), unwatched());
         low = x;
-        high = (low % 256 * 5 + 17) % 256;
-        x = (high % 256 * 5 + 17) % 256;
+        high = after(low);
+        x = after(high);
     }
 }
 
@@ -179,6 +201,22 @@ fn noise(t: u32) -> u16 {
     ((t % 1000 * 9973 + 5) % 0x10000) as u16
 }
 
+fn ticks_of(k: usize) -> u32
+    requires { ⌜ k < 14 ⌝ }
+{
+    TICKS[k]
+}
+
+fn start(k: usize) -> Played
+    requires { ⌜ k < 14 ⌝ }
+    ensures { λ r. ⌜ InRange 0x10000 (r .voice) ⌝ }
+{
+    let s = settings(k);
+    let voice = voice::key_on(SIZE, UnitAddress(STARTS[k]), s.low, s.high);
+    let watch = unwatched();
+    Played { voice, watch }
+}
+
 // Key off, in the play that has one.
 fn keyed(v: Voice, s: Settings, k: usize, t: u32) -> Voice
     requires { ⌜ InRange 0x10000 v ⌝ }
@@ -190,22 +228,35 @@ fn keyed(v: Voice, s: Settings, k: usize, t: u32) -> Voice
     v
 }
 
+// Tick t, and its line.
+fn tick(v: Voice, w: Watch, s: Settings, t: u32, ram: &[u8], marks: &[u8]) -> Played
+    requires { ⌜ Lent 0x10000 (now ram) (now marks) × InRange 0x10000 v ⌝ }
+    ensures { λ r. ⌜ InRange 0x10000 (r .voice) ⌝ }
+{
+    let r = voice::tick(v, 0, SIZE, s, below(t), noise(t), ram, marks, w);
+    let voice = r.voice;
+    let watch = r.watch;
+    print_tick(r.amplitude, voice.envelope.level, voice.ended, watch.doubt);
+    Played { voice, watch }
+}
+
+// Tick t of play k.
+fn turn(p: Played, k: usize, t: u32, ram: &[u8], marks: &[u8]) -> Played
+    requires { ⌜ Lent 0x10000 (now ram) (now marks) × InRange 0x10000 (p .voice) × (k < 14) ⌝ }
+    ensures { λ r. ⌜ InRange 0x10000 (r .voice) ⌝ }
+{
+    let s = settings(k);
+    tick(keyed(p.voice, s, k, t), p.watch, s, t, ram, marks)
+}
+
 fn play(ram: &[u8], marks: &[u8], k: usize)
     requires { ⌜ Lent 0x10000 (now ram) (now marks) × (k < 14) ⌝ }
 {
     print_name(k);
-    let s = settings(k);
-    let mut v = voice::key_on(SIZE, UnitAddress(STARTS[k]), s.low, s.high);
-    let mut w = unwatched();
-    let ticks = TICKS[k];
+    let mut p = start(k);
+    let ticks = ticks_of(k);
     for t in 0..ticks {
-        let x = keyed(v, s, k, t);
-        let r = voice::tick(x, 0, SIZE, s, below(t), noise(t), ram, marks, w);
-        let next = r.voice;
-        let watch = r.watch;
-        v = next;
-        w = watch;
-        print_tick(r.amplitude, v.envelope.level, v.ended, w.doubt);
+        p = turn(p, k, t, ram, marks);
     }
 }
 
