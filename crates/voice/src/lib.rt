@@ -328,20 +328,20 @@ fn arrive(v: Voice, i: u32, who: Reader, size: u32, ram: &[u8], marks: &[u8], w:
 {
     let counter = v.position.counter;
     let mut x = v;
-    if 27 < i {
+    if i <= 27 {
         let position = Position {
             counter,
-            index: (i - 28) as u8,
+            index: i as u8,
         };
         x.position = position;
-        return fetch(end(size, x), who, size, ram, marks, w);
+        return Loaded { voice: x, watch: w };
     }
     let position = Position {
         counter,
-        index: i as u8,
+        index: (i - 28) as u8,
     };
     x.position = position;
-    Loaded { voice: x, watch: w }
+    fetch(end(size, x), who, size, ram, marks, w)
 }
 
 fn moves(
@@ -370,7 +370,7 @@ fn is_idle(phase: Phase) -> bool
         Phase::Decay => false,
         Phase::Sustain => false,
         Phase::Release => false,
-        Phase::Off => false,
+        Phase::Off => false, // it still reads and moves
     }
 }
 
