@@ -9,8 +9,10 @@ use borrow.Author.Tests.{not-true, not-false, ltb-true, leb-true, eq-eqb, ne-eqb
 use lib.Dec.{eqb, leb, ltb}
 use lib.Pow.{pow-mono}
 use lib.ListN.{getD, replicate, set}
-use lib.IntN.{pos}
-use Rattle.fixed.specs.Bits.{bit}
+use lib.IntN.{ℤ, pos}
+use Rattle.fixed.specs.Bits.{bit, field}
+use Rattle.fixed.specs.Signed.{bitsOf}
+use Rattle.fixed.specs.Arithmetic.{volumeOf}
 use Rattle.fixed.proofs.Bits.{one-shl}
 use Rattle.envelope.specs.Adsr.{active}
 use Rattle.noise.specs.declared.Noise.{Noise}
@@ -23,7 +25,7 @@ use Rattle.voice.specs.Voice.{fresh, keyedOn, keyedOff, stoppedOf}
 use Rattle.voices.specs.Voices.{pastEnd}
 use Rattle.chip.specs.declared.State.{State}
 use Rattle.chip.specs.State.{withRegs, withVoices, withReverb, withTransfer, freshOf, allOf, sizeOk, voiceOk, everyOk, baseOf, stateOk}
-use Rattle.chip.specs.Registers.{onBits, onKeys, keyed, keyOn, keyOff, repeated, setRepeat, stopFirst, setControl, isRepeat, isKeyOn, isKeyOff, placed, effectOf, between, listed, writeOf, endFlags}
+use Rattle.chip.specs.Registers.{onBits, onKeys, keyed, keyOn, keyOff, repeated, setRepeat, stopFirst, setControl, isRepeat, isKeyOn, isKeyOff, placed, effectOf, between, listed, writeOf, endFlags, isLevel, statusOf, doubled, voiceAt, readOf}
 use Rattle.chip.proofs.Tests.{and-first, and-rest, sized}
 
 pub fresh-as : (size : ℕ) {v : Voice} → v ≡ fresh
@@ -258,3 +260,56 @@ flags-fit vs first k e f h =
     let l = flags-below vs first (k + 1) in
     let m = pow-mono {i = k + 1} {j = 16} (omega arith) in
     rw (flags-more vs first k e f) (lt-of-lt-of-le l m)
+
+-- ---- reads
+
+pub status-as : (s : State) {a b c d e : ℕ} → a ≡ cond (s .control .latch) 0x40 0 → b ≡ cond (bit 5 (s .control .applied % 0x40)) 0x80 0
+    → c ≡ cond (eqb (field 4 2 (s .control .applied % 0x40)) 2) 0x100 0 → d ≡ cond (eqb (field 4 2 (s .control .applied % 0x40)) 3) 0x200 0
+    → e ≡ cond (leb 0x200 (s .capture)) 0x800 0 → s .control .applied % 0x40 + a + b + c + d + e ≡ statusOf s
+unfolding statusOf
+status-as s p q r t u = rw (p, q, r, t, u)
+
+pub doubled-as : (s : State) (offset : ℕ) {u w : ℕ} {v x : ℤ} → u ≡ registerAt (s .regs) offset → v ≡ volumeOf u → x ≡ v → w ≡ bitsOf 16 x → w ≡ doubled s offset
+unfolding doubled
+doubled-as s offset e f g h = rw (h, g, f, e)
+
+pub level-voice : (offset : ℕ) → isLevel offset ≡ true → offset < 0x180
+level-voice offset e = ltb-true offset 0x180 (and-first (ltb offset 0x180) _ e)
+
+pub repeat-voice : (offset : ℕ) → isRepeat offset ≡ true → offset < 0x180
+repeat-voice offset e = ltb-true offset 0x180 (and-first (ltb offset 0x180) _ e)
+
+pub read-level : (s : State) (offset : ℕ) {v : Voice} → isLevel offset ≡ true → v ≡ voiceAt s offset → v .envelope .level ≡ readOf s offset
+unfolding readOf
+read-level s offset a e = rw (a, e)
+
+pub read-repeat : (s : State) (offset : ℕ) {v : Voice} → isLevel offset ≡ false → isRepeat offset ≡ true → v ≡ voiceAt s offset → v .source .repeat .0 ≡ readOf s offset
+unfolding readOf
+read-repeat s offset a b e = rw (a, b, e)
+
+module _ (s : State) (offset : ℕ) {r : ℕ} where
+  pub read-ends : offset ≡ 0x19C → r ≡ endFlags (s .voices) 0 16 → r ≡ readOf s offset
+  unfolding readOf
+  read-ends e f = rw (e, f)
+
+  pub read-more-ends : offset ≡ 0x19E → r ≡ endFlags (s .voices) 16 8 → r ≡ readOf s offset
+  unfolding readOf
+  read-more-ends e f = rw (e, f)
+
+  pub read-status : offset ≡ 0x1AE → r ≡ statusOf s → r ≡ readOf s offset
+  unfolding readOf
+  read-status e f = rw (e, f)
+
+  pub read-left : offset ≡ 0x1B8 → r ≡ doubled s 0x180 → r ≡ readOf s offset
+  unfolding readOf
+  read-left e f = rw (e, f)
+
+  pub read-right : offset ≡ 0x1BA → r ≡ doubled s 0x182 → r ≡ readOf s offset
+  unfolding readOf
+  read-right e f = rw (e, f)
+
+  pub read-kept : isLevel offset ≡ false → isRepeat offset ≡ false → (offset ≡ 0x19C → ⊥) → (offset ≡ 0x19E → ⊥) → (offset ≡ 0x1AE → ⊥) → (offset ≡ 0x1B8 → ⊥)
+      → (offset ≡ 0x1BA → ⊥) → r ≡ registerAt (s .regs) offset → r ≡ readOf s offset
+  unfolding readOf
+  read-kept a b c d e f g h =
+      rw (a, b, ne-eqb offset 0x19C c, ne-eqb offset 0x19E d, ne-eqb offset 0x1AE e, ne-eqb offset 0x1B8 f, ne-eqb offset 0x1BA g, h)

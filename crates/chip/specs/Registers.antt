@@ -41,9 +41,12 @@ readOnly offset = eqb offset 0x19C || (eqb offset 0x19E || (eqb offset 0x1AE || 
 abbrev pub isVolume : ℕ → Bool
 isVolume offset = (isVoice offset && ltb (offset % 16) 4) || (eqb offset 0x180 || eqb offset 0x182)
 
+abbrev pub isLevel : ℕ → Bool
+isLevel offset = isVoice offset && eqb (offset % 16) 0xC
+
 unfoldable pub notWritten : ℕ → ℕ → Bool
 notWritten offset value =
-    (isVolume offset && bit 15 value) || ((isVoice offset && eqb (offset % 16) 0xC) || (eqb offset 0x1A8 || (eqb offset 0x1AC && not (eqb (field 1 3 value) 2))))
+    (isVolume offset && bit 15 value) || (isLevel offset || (eqb offset 0x1A8 || (eqb offset 0x1AC && not (eqb (field 1 3 value) 2))))
 
 -- "1A8h read"
 abbrev pub notRead : ℕ → Bool
@@ -152,13 +155,21 @@ statusOf s =
     applied + cond (s .control .latch) 0x40 0 + cond (bit 5 applied) 0x80 0 + cond (eqb mode 2) 0x100 0 + cond (eqb mode 3) 0x200 0
     + cond (leb 0x200 (s .capture)) 0x800 0
 
+-- "1B8h/1BAh the doubled main volume"
+unfoldable pub doubled : State → ℕ → ℕ
+doubled s offset = bitsOf 16 (volumeOf (registerAt (s .regs) offset))
+
+-- the voice of an offset
+abbrev pub voiceAt : State → ℕ → Voice
+voiceAt s offset = getD (s .voices) (offset / 16) pastEnd
+
 -- "Carried registers read back as last written, but +Ch the envelope, +Eh the repeat unit, 19Ch/19Eh ENDX, 1B8h/1BAh the doubled main volume."
 unfoldable pub readOf : State → ℕ → ℕ
 readOf s offset =
-    cond (isVoice offset && eqb (offset % 16) 0xC) (getD (s .voices) (offset / 16) pastEnd .envelope .level)
-    (cond (isRepeat offset) (getD (s .voices) (offset / 16) pastEnd .source .repeat .0)
+    cond (isLevel offset) (voiceAt s offset .envelope .level)
+    (cond (isRepeat offset) (voiceAt s offset .source .repeat .0)
     (cond (eqb offset 0x19C) (endFlags (s .voices) 0 16)
     (cond (eqb offset 0x19E) (endFlags (s .voices) 16 8)
     (cond (eqb offset 0x1AE) (statusOf s)
-    (cond (eqb offset 0x1B8) (bitsOf 16 (volumeOf (registerAt (s .regs) 0x180)))
-    (cond (eqb offset 0x1BA) (bitsOf 16 (volumeOf (registerAt (s .regs) 0x182))) (registerAt (s .regs) offset)))))))
+    (cond (eqb offset 0x1B8) (doubled s 0x180)
+    (cond (eqb offset 0x1BA) (doubled s 0x182) (registerAt (s .regs) offset)))))))
