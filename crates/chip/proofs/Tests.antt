@@ -134,6 +134,10 @@ in-range s o n =
       noise = record { timer = leb-true _ _ (first j) };
     }
 
+pub ok-sized : (s : State) → stateOk s ≡ true → Sized (s .choices .size)
+unfolding stateOk
+ok-sized s o = sized _ (first (of-all _ o))
+
 pub passes : (s : State) → InRange s → stateOk s ≡ true
 unfolding stateOk
 passes s r =

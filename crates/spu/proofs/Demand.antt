@@ -49,7 +49,7 @@ chip-sound =
     record {
       safe = λ c s n m. of-both SafeDoing (eqb (numberOf c s n m) 0) (accepted-safe c s) tt;
       quiet = λ c s t n m a e clear. subst Clear e (of-both Clear (eqb (numberOf c s n m) 0) (accepted-clear c s clear) clear);
-      kept = λ s w. refl
+      kept = λ s w. refl;
     }
 
 -- DEMAND 3: "For every list of calls, two runs from the same state and marks, whose RAMs agree on loaded halfwords, give equal answers up to the

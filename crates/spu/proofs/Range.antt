@@ -30,7 +30,7 @@ use Rattle.chip.proofs.Tests.{in-range, sized}
 use Rattle.chip.proofs.Ranges.{placed-even, placed-most, write-in, transfer-in, fresh-state-in}
 use Rattle.spu.specs.Tick.{Pair, placeAfter, reverbAfter, reverbOf, tickOf}
 use Rattle.spu.specs.Transfer.{Moved, inwardOf, outwardOf}
-use Rattle.spu.specs.Step.{Call, write, read, transferIn, transferOut, tick, tickFloats, reset, view, Answer, Test, firstOf, numberOf, refusedOf, acceptedOf, stepOf, chip}
+use Rattle.spu.specs.Step.{Call, write, read, transferIn, transferOut, tick, tickFloats, reset, view, Answer, Test, firstOf, testsOf, numberOf, refusedOf, acceptedOf, stepOf, chip}
 
 -- ---- transfers
 
@@ -101,7 +101,7 @@ tick-in {s} left right r =
       place-most = p .most;
       transfer-even = r .transfer-even;
       transfer = r .transfer;
-      noise = ticked-in (s .noise) _ (r .noise)
+      noise = ticked-in (s .noise) _ (r .noise);
     }))))
 
 -- ---- every call
@@ -112,17 +112,17 @@ Leaves P (still a t) = P t
 Leaves P (works p) = Always (λ (r : Reply Answer State). P (r .state)) p
 
 -- of a list of tests that gives 0, none applies
-passed-first : (b : Bool) (n : ℕ) (ts : List Test) → firstOf (record { applies = b; number = suc n } ∷ ts) ≡ 0 → b ≡ false
+pub passed-first : (b : Bool) (n : ℕ) (ts : List Test) → firstOf (record { applies = b; number = suc n } ∷ ts) ≡ 0 → b ≡ false
 unfolding firstOf
 passed-first true n ts e = absurd (omega arith)
 passed-first false n ts e = refl
 
-passed-rest : (b : Bool) (n : ℕ) (ts : List Test) → firstOf (record { applies = b; number = suc n } ∷ ts) ≡ 0 → firstOf ts ≡ 0
+pub passed-rest : (b : Bool) (n : ℕ) (ts : List Test) → firstOf (record { applies = b; number = suc n } ∷ ts) ≡ 0 → firstOf ts ≡ 0
 unfolding firstOf
 passed-rest true n ts e = absurd (omega arith)
 passed-rest false n ts e = e
 
-accepted-ok : (c : Call) (s : State) (ram marks : ℕ) → numberOf c s ram marks ≡ 0 → stateOk s ≡ true
+pub accepted-ok : (c : Call) (s : State) (ram marks : ℕ) → numberOf c s ram marks ≡ 0 → stateOk s ≡ true
 unfolding numberOf
 accepted-ok (write offset v) s ram marks e = not-false _ (passed-first _ 1 _ e)
 accepted-ok (read offset) s ram marks e = not-false _ (passed-first _ 1 _ e)
@@ -133,7 +133,7 @@ accepted-ok (tickFloats left right) s ram marks e = not-false _ (passed-first _ 
 accepted-ok reset s ram marks e = not-false _ (passed-first _ 1 _ e)
 accepted-ok (view a) s ram marks e = not-false _ (passed-first _ 1 _ (passed-rest _ 0 _ e))
 
-accepted-listed : (offset v : ℕ) (s : State) (ram marks : ℕ) → numberOf (write offset v) s ram marks ≡ 0 → listed offset ≡ true
+pub accepted-listed : (offset v : ℕ) (s : State) (ram marks : ℕ) → numberOf (write offset v) s ram marks ≡ 0 → listed offset ≡ true
 unfolding numberOf
 accepted-listed offset v s ram marks e = not-false _ (passed-first _ 2 _ (passed-rest _ 1 _ e))
 
@@ -165,7 +165,7 @@ watched-in w r =
       place-most = r .place-most;
       transfer-even = r .transfer-even;
       transfer = r .transfer;
-      noise = r .noise
+      noise = r .noise;
     }
 
 left-in : (d : Doing Answer State) (s : State) (ram marks : List ℕ) → Leaves InRange d → InRange (outcome chip d s ram marks .state)

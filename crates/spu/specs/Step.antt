@@ -1,4 +1,5 @@
 -- Every call, with its refusals, as one step of a machine. Assumes nothing.
+use mathlib.Core.Path.{_≡_}
 use mathlib.Core.Bool.{Bool, true, false, cond, _&&_, _||_, not}
 use mathlib.Core.List.{List, [], _∷_}
 use Prim.Native.Nat.{ℕ, _-_, _/_, _%_}
@@ -11,8 +12,9 @@ use Rattle.stereo.specs.Float.{stereoOf}
 use Rattle.soundram.specs.Program.{Prog, done, bind}
 use Rattle.soundram.specs.Calls.{Reply, Doing, still, works, Machine}
 use Rattle.chip.specs.declared.State.{State}
-use Rattle.chip.specs.State.{withTransfer, freshOf, stateOk, watchOf, watchedOf}
+use Rattle.chip.specs.State.{withTransfer, freshOf, sizeOk, stateOk, watchOf, watchedOf}
 use Rattle.chip.specs.Registers.{listed, readOnly, notWritten, notRead, writeOf, readOf}
+use Rattle.spu.specs.declared.Changed.{Changed}
 use Rattle.spu.specs.Tick.{Pair, tickOf}
 use Rattle.spu.specs.Transfer.{Moved, inwardOf, outwardOf}
 
@@ -48,7 +50,7 @@ unfoldable pub firstOf : List Test → ℕ
 firstOf [] = 0
 firstOf (t ∷ ts) = cond (t .applies) (t .number) (firstOf ts)
 
-abbrev test : Bool → ℕ → Test
+abbrev pub test : Bool → ℕ → Test
 test b n = record { applies = b; number = n }
 
 -- 1: "RAM or marks of another length than the state's L asks"; a block view is lent RAM alone
@@ -74,17 +76,19 @@ badCount n = eqb n 0 || ltb 32 n
 abbrev badBlock : State → ℕ → Bool
 badBlock s a = not (eqb (a % 8) 0) || ltb (s .choices .size - 16) a
 
+abbrev pub testsOf : Call → State → ℕ → ℕ → List Test
+testsOf (write offset v) s ram marks = test (outside s) 2 ∷ test (not (listed offset)) 3 ∷ test (readOnly offset) 4 ∷ test (notWritten offset v) 5 ∷ []
+testsOf (read offset) s ram marks = test (outside s) 2 ∷ test (not (listed offset)) 3 ∷ test (notRead offset) 5 ∷ []
+testsOf (transferIn vs) s ram marks =
+    test (otherLent s ram marks) 1 ∷ test (outside s) 2 ∷ test (not (eqb (modeOf s) 1 || eqb (modeOf s) 2)) 6 ∷ test (badCount (length vs)) 7 ∷ []
+testsOf (transferOut b) s ram marks = test (otherLent s ram marks) 1 ∷ test (outside s) 2 ∷ test (not (eqb (modeOf s) 3)) 6 ∷ test (badCount (length b)) 7 ∷ []
+testsOf (tick left right) s ram marks = test (otherLent s ram marks) 1 ∷ test (outside s) 2 ∷ []
+testsOf (tickFloats left right) s ram marks = test (otherLent s ram marks) 1 ∷ test (outside s) 2 ∷ []
+testsOf reset s ram marks = test (outside s) 2 ∷ []
+testsOf (view a) s ram marks = test (otherRam s ram) 1 ∷ test (outside s) 2 ∷ test (badBlock s a) 8 ∷ []
+
 unfoldable pub numberOf : Call → State → ℕ → ℕ → ℕ
-numberOf (write offset v) s ram marks = firstOf (test (outside s) 2 ∷ test (not (listed offset)) 3 ∷ test (readOnly offset) 4 ∷ test (notWritten offset v) 5 ∷ [])
-numberOf (read offset) s ram marks = firstOf (test (outside s) 2 ∷ test (not (listed offset)) 3 ∷ test (notRead offset) 5 ∷ [])
-numberOf (transferIn vs) s ram marks =
-    firstOf (test (otherLent s ram marks) 1 ∷ test (outside s) 2 ∷ test (not (eqb (modeOf s) 1 || eqb (modeOf s) 2)) 6 ∷ test (badCount (length vs)) 7 ∷ [])
-numberOf (transferOut b) s ram marks =
-    firstOf (test (otherLent s ram marks) 1 ∷ test (outside s) 2 ∷ test (not (eqb (modeOf s) 3)) 6 ∷ test (badCount (length b)) 7 ∷ [])
-numberOf (tick left right) s ram marks = firstOf (test (otherLent s ram marks) 1 ∷ test (outside s) 2 ∷ [])
-numberOf (tickFloats left right) s ram marks = firstOf (test (otherLent s ram marks) 1 ∷ test (outside s) 2 ∷ [])
-numberOf reset s ram marks = firstOf (test (outside s) 2 ∷ [])
-numberOf (view a) s ram marks = firstOf (test (otherRam s ram) 1 ∷ test (outside s) 2 ∷ test (badBlock s a) 8 ∷ [])
+numberOf c s ram marks = firstOf (testsOf c s ram marks)
 
 -- ---- what each call does
 
@@ -117,10 +121,14 @@ acceptedOf (view a) s = still (viewed 0 16) s
 unfoldable pub stepOf : Call → State → ℕ → ℕ → Doing Answer State
 stepOf c s ram marks = let n = numberOf c s ram marks in cond (eqb n 0) (acceptedOf c s) (still (refusedOf c n) s)
 
+-- a call that touches no memory gives this answer and leaves this state, whatever is lent
+pub record Gives (c : Call) (s : State) (a : Answer) (t : State) : Type 0 where
+  pub step : (ram marks : ℕ) → stepOf c s ram marks ≡ still a t
+
 abbrev pub chip : Machine Call Answer State
 chip = record { step = stepOf; watch = watchOf; watched = watchedOf }
 
--- "Making a state for another L gives 1 and the fresh state for 65,536."
-pub record Made : Type 0 where
-  pub number : ℕ
-  pub state : State
+-- ---- "Making a state for another L gives 1 and the fresh state for 65,536."
+
+unfoldable pub makeOf : ℕ → Changed
+makeOf size = cond (sizeOk size) (record { number = 0; state = freshOf size }) (record { number = 1; state = freshOf 0x10000 })

@@ -33,7 +33,7 @@ tick-one-requires : tie.Need-tick-one-requires Inv-loop μ-loop
 tick-one-requires c κs =
     let v = c .before .before .loop .inv in
     let h = c .before .loop-test .taken in
-    (h, c .before .before .before .before .before .pre .0, v .2 .each _ h, v .3)
+    (omega arith, c .before .before .before .before .before .pre .0, v .2 .each _ (omega arith), v .3)
 
 mul-voices : tie.Need-mul-voices Inv-loop μ-loop
 mul-voices c = search needs
@@ -57,7 +57,7 @@ loop-again c =
     let d = t .tick-one .ensures in (
       omega arith,
       search needs,
-      all-set _ _ (v .2) (v .1) h (turn-range _ _ _ _ _ _ (d .0) (s .pre .0 .sized) (v .2 .each _ h)),
+      all-set _ _ (v .2) (v .1) (omega arith) (turn-range _ _ _ _ _ _ (d .0) (s .pre .0 .sized) (v .2 .each _ (omega arith))),
       d .1,
       repeat-more _ _ _ _ _ (v .4) (voice-does _ _ _ _ _ _ (d .0)),
     )

@@ -1,0 +1,118 @@
+-- Calls that touch no memory, from the numbers that they give. Assumes nothing.
+use mathlib.Core.Path.{_≡_, refl, ap, sym, _∙_}
+use mathlib.Core.Bool.{Bool, true, false, not, _&&_}
+use mathlib.Core.List.{List, [], _∷_}
+use Prim.Native.Nat.{ℕ, _<_}
+use native.Mathlib.Omega.{arith}
+use borrow.Author.Tests.{eq-eqb, ne-eqb, not-false}
+use Rattle.soundram.specs.Calls.{Doing, still}
+use Rattle.chip.specs.declared.State.{State}
+use Rattle.chip.specs.State.{freshOf, sizeOk, stateOk}
+use Rattle.chip.specs.Registers.{listed, readOnly, notWritten, writeOf, readOf}
+use Rattle.chip.proofs.Tests.{ok-sized}
+use Rattle.spu.specs.declared.Changed.{Changed}
+use Rattle.spu.specs.Step.{Call, write, read, reset, Answer, written, value, made, Test, test, firstOf, numberOf, refusedOf, acceptedOf, stepOf, Gives, makeOf}
+use Rattle.spu.proofs.Range.{accepted-ok, accepted-listed, passed-first, passed-rest}
+
+-- ---- making
+
+pub make-yes : (size : ℕ) {b : Bool} {s : State} → b ≡ sizeOk size → b ≡ true → s ≡ freshOf size → record { number = 0; state = s } ≡ makeOf size
+unfolding makeOf
+make-yes size e t f = rw (← e, t, f)
+
+pub make-no : (size : ℕ) {b : Bool} {s : State} → b ≡ sizeOk size → b ≡ false → s ≡ freshOf 0x10000 → record { number = 1; state = s } ≡ makeOf size
+unfolding makeOf
+make-no size e t f = rw (← e, t, f)
+
+-- ---- the first test that applies
+
+here : (b : Bool) (n : ℕ) (ts : List Test) → b ≡ true → n ≡ firstOf (test b n ∷ ts)
+unfolding firstOf
+here b n ts e = rw e
+
+later : (b : Bool) (n : ℕ) (ts : List Test) {m : ℕ} → b ≡ false → m ≡ firstOf ts → m ≡ firstOf (test b n ∷ ts)
+unfolding firstOf
+later b n ts e f = rw (e, f)
+
+none : 0 ≡ firstOf []
+unfolding firstOf
+none = refl
+
+module _ (s : State) (offset v : ℕ) where
+  -- a is the test of the state, b that of the offset, c and d those of a write
+  pub write-2 : {a : Bool} → a ≡ stateOk s → not a ≡ true → 2 ≡ numberOf (write offset v) s 0 0
+  unfolding numberOf
+  write-2 p e = here _ 2 _ (rw (← p) e)
+
+  pub write-3 : {a b : Bool} → a ≡ stateOk s → not a ≡ false → b ≡ listed offset → not b ≡ true → 3 ≡ numberOf (write offset v) s 0 0
+  unfolding numberOf
+  write-3 p e q f = later _ 2 _ (rw (← p) e) (here _ 3 _ (rw (← q) f))
+
+  pub write-4 : {a b c : Bool} → a ≡ stateOk s → not a ≡ false → b ≡ listed offset → not b ≡ false → c ≡ readOnly offset → c ≡ true → 4 ≡ numberOf (write offset v) s 0 0
+  unfolding numberOf
+  write-4 p e q f r g = later _ 2 _ (rw (← p) e) (later _ 3 _ (rw (← q) f) (here _ 4 _ (rw (← r) g)))
+
+  pub write-5 : {a b c d : Bool} → a ≡ stateOk s → not a ≡ false → b ≡ listed offset → not b ≡ false → c ≡ readOnly offset → c ≡ false → d ≡ notWritten offset v → d ≡ true
+      → 5 ≡ numberOf (write offset v) s 0 0
+  unfolding numberOf
+  write-5 p e q f r g t h = later _ 2 _ (rw (← p) e) (later _ 3 _ (rw (← q) f) (later _ 4 _ (rw (← r) g) (here _ 5 _ (rw (← t) h))))
+
+  pub write-0 : {a b c d : Bool} → a ≡ stateOk s → not a ≡ false → b ≡ listed offset → not b ≡ false → c ≡ readOnly offset → c ≡ false → d ≡ notWritten offset v → d ≡ false
+      → 0 ≡ numberOf (write offset v) s 0 0
+  unfolding numberOf
+  write-0 p e q f r g t h = later _ 2 _ (rw (← p) e) (later _ 3 _ (rw (← q) f) (later _ 4 _ (rw (← r) g) (later _ 5 _ (rw (← t) h) none)))
+
+module _ (s : State) (offset : ℕ) where
+  pub read-2 : {a : Bool} → a ≡ stateOk s → not a ≡ true → 2 ≡ numberOf (read offset) s 0 0
+  unfolding numberOf
+  read-2 p e = here _ 2 _ (rw (← p) e)
+
+  pub read-3 : {a b : Bool} → a ≡ stateOk s → not a ≡ false → b ≡ listed offset → not b ≡ true → 3 ≡ numberOf (read offset) s 0 0
+  unfolding numberOf
+  read-3 p e q f = later _ 2 _ (rw (← p) e) (here _ 3 _ (rw (← q) f))
+
+  pub read-5 : {a b : Bool} → a ≡ stateOk s → not a ≡ false → b ≡ listed offset → not b ≡ false → offset ≡ 0x1A8 → 5 ≡ numberOf (read offset) s 0 0
+  unfolding numberOf
+  read-5 p e q f g = later _ 2 _ (rw (← p) e) (later _ 3 _ (rw (← q) f) (here _ 5 _ (eq-eqb offset 0x1A8 g)))
+
+  pub read-0 : {a b : Bool} → a ≡ stateOk s → not a ≡ false → b ≡ listed offset → not b ≡ false → (offset ≡ 0x1A8 → ⊥) → 0 ≡ numberOf (read offset) s 0 0
+  unfolding numberOf
+  read-0 p e q f g = later _ 2 _ (rw (← p) e) (later _ 3 _ (rw (← q) f) (later _ 5 _ (ne-eqb offset 0x1A8 g) none))
+
+-- ---- the calls
+
+pub write-yes : (s : State) (offset v : ℕ) {n : ℕ} {t : State} → n ≡ numberOf (write offset v) s 0 0 → n ≡ 0 → t ≡ writeOf s offset v
+    → Gives (write offset v) s (written n) t
+unfolding stepOf numberOf acceptedOf
+write-yes s offset v e z f = record { step = λ ram marks. rw (← e, z, f) }
+
+pub write-no : (s : State) (offset v : ℕ) {n : ℕ} → n ≡ numberOf (write offset v) s 0 0 → (n ≡ 0 → ⊥) → Gives (write offset v) s (written n) s
+unfolding stepOf numberOf refusedOf
+write-no s offset v {n} e z = record { step = λ ram marks. rw (← e, ne-eqb n 0 z) }
+
+pub read-yes : (s : State) (offset : ℕ) {n r : ℕ} → n ≡ numberOf (read offset) s 0 0 → n ≡ 0 → r ≡ readOf s offset → Gives (read offset) s (value n r) s
+unfolding stepOf numberOf acceptedOf
+read-yes s offset e z f = record { step = λ ram marks. rw (← e, z, f) }
+
+pub read-no : (s : State) (offset : ℕ) {n : ℕ} → n ≡ numberOf (read offset) s 0 0 → (n ≡ 0 → ⊥) → Gives (read offset) s (value n 0) s
+unfolding stepOf numberOf refusedOf
+read-no s offset {n} e z = record { step = λ ram marks. rw (← e, ne-eqb n 0 z) }
+
+pub reset-yes : (s : State) {a : Bool} {t : State} → a ≡ stateOk s → a ≡ true → t ≡ freshOf (s .choices .size) → Gives reset s (made 0) t
+unfolding stepOf numberOf firstOf acceptedOf
+reset-yes s e z f = record { step = λ ram marks. rw (← e, z, f) }
+
+pub reset-no : (s : State) {a : Bool} → a ≡ stateOk s → a ≡ false → Gives reset s (made 2) s
+unfolding stepOf numberOf firstOf refusedOf
+reset-no s e z = record { step = λ ram marks. rw (← e, z) }
+
+-- what an accepted call may rely on
+pub write-listed : (s : State) (offset v : ℕ) {n : ℕ} → n ≡ numberOf (write offset v) s 0 0 → n ≡ 0 → listed offset ≡ true
+write-listed s offset v e z = accepted-listed offset v s 0 0 (sym e ∙ z)
+
+pub write-sized : (s : State) (offset v : ℕ) {n : ℕ} → n ≡ numberOf (write offset v) s 0 0 → n ≡ 0 → 0 < s .choices .size
+write-sized s offset v e z = let h = ok-sized s (accepted-ok (write offset v) s 0 0 (sym e ∙ z)) in omega arith
+
+pub read-listed : (s : State) (offset : ℕ) {n : ℕ} → n ≡ numberOf (read offset) s 0 0 → n ≡ 0 → listed offset ≡ true
+unfolding numberOf
+read-listed s offset e z = not-false _ (passed-first _ 2 _ (passed-rest _ 1 _ (sym e ∙ z)))
