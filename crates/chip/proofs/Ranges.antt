@@ -26,7 +26,7 @@ use Rattle.voices.proofs.Turns.{all-set}
 use Rattle.chip.specs.declared.State.{State}
 use Rattle.chip.specs.State.{withRegs, withVoices, withReverb, withTransfer, freshOf, sizeOk, baseOf}
 use Rattle.chip.specs.Registers.{isVoice, listed, isRepeat, onBits, onKeys, keyOn, keyOff, setRepeat, repeated, stopFirst, setControl, placed, effectOf, writeOf}
-use Rattle.chip.specs.Range.{Shaped, InRange}
+use Rattle.chip.specs.Range.{Shaped, TransferIn, InRange}
 use Rattle.chip.proofs.Writes.{of-both, of-effects}
 use Rattle.chip.proofs.Tests.{and-first, sized}
 use Rattle.chip.proofs.Parts.{voice-number}
@@ -64,20 +64,7 @@ voices-of : {s : State} → InRange s → Voices (s .choices .size) (s .voices)
 voices-of r = record { count = r .shaped .voices; all = r .voices }
 
 revoiced : {s : State} {vs : List Voice} → InRange s → Voices (s .choices .size) vs → InRange (withVoices s vs)
-revoiced r i =
-    record {
-      shaped = record { regs = r .shaped .regs; voices = i .count };
-      size = r .size;
-      voices = i .all;
-      capture-even = r .capture-even;
-      capture = r .capture;
-      place-even = r .place-even;
-      place-least = r .place-least;
-      place-most = r .place-most;
-      transfer-even = r .transfer-even;
-      transfer = r .transfer;
-      noise = r .noise;
-    }
+revoiced r i = record { shaped = record { regs = r .shaped .regs; voices = i .count }; size = r .size; voices = i .all; capture = r .capture; place = r .place; transfer = r .transfer; noise = r .noise }
 
 -- ---- the effects of a write
 
@@ -102,54 +89,17 @@ control-in : {s : State} (old value : ℕ) → InRange s → InRange (setControl
 unfolding setControl
 control-in {s} old value r =
     let i = of-both (Voices (s .choices .size)) (bit 15 value) (voices-of r) (stop-in 24 (s .voices) (omega arith) (voices-of r)) in
-    record {
-      shaped = record { regs = r .shaped .regs; voices = i .count };
-      size = r .size;
-      voices = i .all;
-      capture-even = r .capture-even;
-      capture = r .capture;
-      place-even = r .place-even;
-      place-least = r .place-least;
-      place-most = r .place-most;
-      transfer-even = r .transfer-even;
-      transfer = r .transfer;
-      noise = written-in (s .noise) old value (r .noise);
-    }
+    record { shaped = record { regs = r .shaped .regs; voices = i .count }; size = r .size; voices = i .all; capture = r .capture; place = r .place; transfer = r .transfer; noise = written-in (s .noise) old value (r .noise) }
 
-pub transfer-in : {s : State} {a : ByteAddress} → InRange s → a .0 % 2 ≡ 0 → a .0 < s .choices .size → InRange (withTransfer s a)
-transfer-in r e b =
-    record {
-      shaped = record { regs = r .shaped .regs; voices = r .shaped .voices };
-      size = r .size;
-      voices = r .voices;
-      capture-even = r .capture-even;
-      capture = r .capture;
-      place-even = r .place-even;
-      place-least = r .place-least;
-      place-most = r .place-most;
-      transfer-even = e;
-      transfer = b;
-      noise = r .noise;
-    }
+pub transfer-in : {s : State} {a : ByteAddress} → InRange s → TransferIn (s .choices .size) a → InRange (withTransfer s a)
+transfer-in r t = record { shaped = record { regs = r .shaped .regs; voices = r .shaped .voices }; size = r .size; voices = r .voices; capture = r .capture; place = r .place; transfer = t; noise = r .noise }
 
 -- a register that does not move the reverb's base
 kept-in : {s : State} (offset value : ℕ) → InRange s → offset % 2 ≡ 0 → (offset ≡ 0x1A2 → ⊥) → InRange (withRegs s (set (s .regs) (offset / 2) value))
 unfolding registerAt
 kept-in {s} offset value r even other =
     let same = getD-set-other (s .regs) (offset / 2) 0xD1 value 0 (λ e. other (omega arith)) in
-    record {
-      shaped = record { regs = length-set (s .regs) (offset / 2) value ∙ r .shaped .regs; voices = r .shaped .voices };
-      size = r .size;
-      voices = r .voices;
-      capture-even = r .capture-even;
-      capture = r .capture;
-      place-even = r .place-even;
-      place-least = rw same (r .place-least);
-      place-most = r .place-most;
-      transfer-even = r .transfer-even;
-      transfer = r .transfer;
-      noise = r .noise;
-    }
+    record { shaped = record { regs = length-set (s .regs) (offset / 2) value ∙ r .shaped .regs; voices = r .shaped .voices }; size = r .size; voices = r .voices; capture = r .capture; place = record { even = r .place .even; least = rw same (r .place .least); most = r .place .most }; transfer = r .transfer; noise = r .noise }
 
 -- an address that a register gives is even, and L-2 at most
 pub placed-even : {size : ℕ} (u : UnitAddress) → Sized size → addressOf size u .0 % 2 ≡ 0
@@ -165,20 +115,9 @@ base-in : (s : State) (value : ℕ) → InRange s → InRange (writeOf s 0x1A2 v
 unfolding writeOf effectOf registerAt
 base-in s value r =
     let l = r .shaped .regs in
+    let z = sized _ (r .size) in
     let same = getD-set-same (s .regs) 0xD1 value 0 (omega arith) in
-    record {
-      shaped = record { regs = length-set (s .regs) 0xD1 value ∙ l; voices = r .shaped .voices };
-      size = r .size;
-      voices = r .voices;
-      capture-even = r .capture-even;
-      capture = r .capture;
-      place-even = placed-even _ (sized _ (r .size));
-      place-least = rw same (omega arith);
-      place-most = placed-most _ (sized _ (r .size));
-      transfer-even = r .transfer-even;
-      transfer = r .transfer;
-      noise = r .noise;
-    }
+    record { shaped = record { regs = length-set (s .regs) 0xD1 value ∙ l; voices = r .shaped .voices }; size = r .size; voices = r .voices; capture = r .capture; place = record { even = placed-even _ z; least = rw same (omega arith); most = placed-most _ z }; transfer = r .transfer; noise = r .noise }
 
 other-in : (s : State) (offset value : ℕ) → InRange s → offset % 2 ≡ 0 → (offset ≡ 0x1A2 → ⊥) → InRange (writeOf s offset value)
 unfolding writeOf
@@ -186,7 +125,7 @@ other-in s offset value r even other =
     let k = kept-in offset value r even other in
     let z = sized _ (r .size) in
     of-effects InRange _ offset _ value (λ e. repeat-in (offset / 16) value k (voice-number offset e)) (on-in _ value k) (off-in _ value k)
-    (λ e. absurd (other (eqb-true offset 0x1A2 e))) (transfer-in k (placed-even _ z) (address-below _ _ (omega arith))) (control-in _ value k) k
+    (λ e. absurd (other (eqb-true offset 0x1A2 e))) (transfer-in k (record { even = placed-even _ z; below = address-below _ _ (omega arith) })) (control-in _ value k) k
 
 pub write-in : (s : State) (offset value : ℕ) → listed offset ≡ true → InRange s → InRange (writeOf s offset value)
 unfolding listed
@@ -205,12 +144,8 @@ fresh-state-in size e =
       shaped = record { regs = refl; voices = refl };
       size = e;
       voices = record { each = λ n h. rw (getD-replicate 24 n fresh pastEnd h) (fresh-in z) };
-      capture-even = refl;
-      capture = omega arith;
-      place-even = refl;
-      place-least = subst (λ (a : ByteAddress). a .0 ≤ 0) (address-small size (record { 0 = 0 }) (omega arith)) (omega arith);
-      place-most = omega arith;
-      transfer-even = refl;
-      transfer = omega arith;
+      capture = record { even = refl; below = omega arith };
+      place = record { even = refl; least = subst (λ (a : ByteAddress). a .0 ≤ 0) (address-small size (record { 0 = 0 }) (omega arith)) (omega arith); most = omega arith };
+      transfer = record { even = refl; below = omega arith };
       noise = record { timer = omega arith };
     }

@@ -30,11 +30,11 @@ data All : List Bool → Type 0 where
   none : All []
   more : {a : Bool} {bs : List Bool} → a ≡ true → All bs → All (a ∷ bs)
 
-first : {a : Bool} {bs : List Bool} → All (a ∷ bs) → a ≡ true
-first (more e f) = e
-
-rest : {a : Bool} {bs : List Bool} → All (a ∷ bs) → All bs
-rest (more e f) = f
+-- the k-th of them
+nth : {bs : List Bool} (k : ℕ) → All bs → getD bs k true ≡ true
+nth k none = refl
+nth zero (more e f) = e
+nth (suc k) (more e f) = nth k f
 
 all-of : {bs : List Bool} → All bs → allOf bs ≡ true
 unfolding allOf
@@ -72,18 +72,12 @@ voice-in : (size : ℕ) (v : Voice) → voiceOk size v ≡ true → voice.InRang
 unfolding voiceOk
 voice-in size v o =
     let a = of-all _ o in
-    let b = rest a in
-    let c = rest b in
-    let d = rest c in
-    let e = rest d in
-    let f = rest e in
-    let g = rest f in
     record {
-      envelope = record { level = leb-true _ _ (first a); wait = leb-true _ _ (first b); runs = λ t. runs _ _ (first c) t };
-      counter = ltb-true _ _ (first d);
-      index = leb-true _ _ (first e);
-      multiple = eqb-true _ _ (first f);
-      below = ltb-true _ _ (first g);
+      envelope = record { level = leb-true _ _ (nth 0 a); wait = leb-true _ _ (nth 1 a); runs = λ t. runs _ _ (nth 2 a) t };
+      counter = ltb-true _ _ (nth 3 a);
+      index = leb-true _ _ (nth 4 a);
+      multiple = eqb-true _ _ (nth 5 a);
+      below = ltb-true _ _ (nth 6 a);
     }
 
 voice-ok : (size : ℕ) (v : Voice) → voice.InRange size v → voiceOk size v ≡ true
@@ -111,36 +105,23 @@ pub in-range : (s : State) → stateOk s ≡ true → Shaped s → InRange s
 unfolding stateOk
 in-range s o n =
     let a = of-all _ o in
-    let b = rest a in
-    let c = rest b in
-    let d = rest c in
-    let e = rest d in
-    let f = rest e in
-    let g = rest f in
-    let h = rest g in
-    let i = rest h in
-    let j = rest i in
     record {
       shaped = n;
-      size = first a;
-      voices = record { each = λ k h. every-at _ (s .voices) 24 k (first b) h };
-      capture-even = eqb-true _ _ (first c);
-      capture = ltb-true _ _ (first d);
-      place-even = eqb-true _ _ (first e);
-      place-least = leb-true _ _ (first f);
-      place-most = leb-true _ _ (first g);
-      transfer-even = eqb-true _ _ (first h);
-      transfer = ltb-true _ _ (first i);
-      noise = record { timer = leb-true _ _ (first j) };
+      size = nth 0 a;
+      voices = record { each = λ k h. every-at _ (s .voices) 24 k (nth 1 a) h };
+      capture = record { even = eqb-true _ _ (nth 2 a); below = ltb-true _ _ (nth 3 a) };
+      place = record { even = eqb-true _ _ (nth 4 a); least = leb-true _ _ (nth 5 a); most = leb-true _ _ (nth 6 a) };
+      transfer = record { even = eqb-true _ _ (nth 7 a); below = ltb-true _ _ (nth 8 a) };
+      noise = record { timer = leb-true _ _ (nth 9 a) };
     }
 
 pub ok-sized : (s : State) → stateOk s ≡ true → Sized (s .choices .size)
 unfolding stateOk
-ok-sized s o = sized _ (first (of-all _ o))
+ok-sized s o = sized _ (nth 0 (of-all _ o))
 
 pub passes : (s : State) → InRange s → stateOk s ≡ true
 unfolding stateOk
 passes s r =
-    all-of (more (r .size) (more (at-every _ (s .voices) 24 (r .voices .each)) (more (eq-eqb _ _ (r .capture-even)) (more (lt-ltb _ _ (r .capture))
-    (more (eq-eqb _ _ (r .place-even)) (more (le-leb _ _ (r .place-least)) (more (le-leb _ _ (r .place-most)) (more (eq-eqb _ _ (r .transfer-even))
-    (more (lt-ltb _ _ (r .transfer)) (more (le-leb _ _ (r .noise .timer)) none))))))))))
+    all-of (more (r .size) (more (at-every _ (s .voices) 24 (r .voices .each)) (more (eq-eqb _ _ (r .capture .even)) (more (lt-ltb _ _ (r .capture .below))
+    (more (eq-eqb _ _ (r .place .even)) (more (le-leb _ _ (r .place .least)) (more (le-leb _ _ (r .place .most)) (more (eq-eqb _ _ (r .transfer .even))
+    (more (lt-ltb _ _ (r .transfer .below)) (more (le-leb _ _ (r .noise .timer)) none))))))))))

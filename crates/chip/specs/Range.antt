@@ -14,15 +14,27 @@ pub record Shaped (s : State) : Type 0 where
   pub regs : length (s .regs) ≡ 256
   pub voices : length (s .voices) ≡ 24
 
+-- "capture place even, below 400h"
+pub record CaptureIn (place : ℕ) : Type 0 where
+  pub even : place % 2 ≡ 0
+  pub below : place < 0x400
+
+-- "reverb place even, from its base to L-2"
+pub record PlaceIn (size base place : ℕ) : Type 0 where
+  pub even : place % 2 ≡ 0
+  pub least : base ≤ place
+  pub most : place ≤ size - 2
+
+-- "transfer address even, below L"
+pub record TransferIn (size : ℕ) (a : ByteAddress) : Type 0 where
+  pub even : a .0 % 2 ≡ 0
+  pub below : a .0 < size
+
 pub record InRange (s : State) : Type 0 where
   pub shaped : Shaped s
   pub size : sizeOk (s .choices .size) ≡ true
   pub voices : AllIn (s .choices .size) (s .voices)
-  pub capture-even : s .capture % 2 ≡ 0
-  pub capture : s .capture < 0x400
-  pub place-even : s .reverb .place .0 % 2 ≡ 0
-  pub place-least : baseOf s .0 ≤ s .reverb .place .0
-  pub place-most : s .reverb .place .0 ≤ s .choices .size - 2
-  pub transfer-even : s .transfer .0 % 2 ≡ 0
-  pub transfer : s .transfer .0 < s .choices .size
+  pub capture : CaptureIn (s .capture)
+  pub place : PlaceIn (s .choices .size) (baseOf s .0) (s .reverb .place .0)
+  pub transfer : TransferIn (s .choices .size) (s .transfer)
   pub noise : noise.InRange (s .noise)

@@ -25,7 +25,7 @@ use Rattle.chip.specs.declared.Reverb.{Reverb}
 use Rattle.chip.specs.declared.State.{State}
 use Rattle.chip.specs.State.{withReverb, withTransfer, baseOf, stateOk, watchedOf}
 use Rattle.chip.specs.Registers.{listed}
-use Rattle.chip.specs.Range.{Shaped, InRange}
+use Rattle.chip.specs.Range.{Shaped, PlaceIn, TransferIn, InRange}
 use Rattle.chip.proofs.Tests.{in-range, sized}
 use Rattle.chip.proofs.Ranges.{placed-even, placed-most, write-in, transfer-in, fresh-state-in}
 use Rattle.spu.specs.Tick.{Pair, placeAfter, reverbAfter, reverbOf, tickOf}
@@ -34,40 +34,29 @@ use Rattle.spu.specs.Step.{Call, write, read, transferIn, transferOut, t
 
 -- ---- transfers
 
--- an even address below L
-record Even (size : ℕ) (a : ByteAddress) : Type 0 where
-  pub even : a .0 % 2 ≡ 0
-  pub below : a .0 < size
-
-forward-even : {size : ℕ} {a : ByteAddress} → Sized size → Even size a → Even size (forwardOf size a 2)
+forward-even : {size : ℕ} {a : ByteAddress} → Sized size → TransferIn size a → TransferIn size (forwardOf size a 2)
 forward-even {size} {a} z e =
     let v = e .even in
     record { even = forward-multiple 2 size a 2 (omega arith) (omega arith); below = forward-below size a _ 2 refl (e .below) }
 
-inward-even : {size : ℕ} {a : ByteAddress} (vs : List ℕ) → Sized size → Even size a → Always (Even size) (inwardOf size a vs)
+inward-even : {size : ℕ} {a : ByteAddress} (vs : List ℕ) → Sized size → TransferIn size a → Always (TransferIn size) (inwardOf size a vs)
 unfolding inwardOf
 inward-even [] z e = ends e
 inward-even (v ∷ vs) z e = always-bind (always-any _) (λ _ _. inward-even vs z (forward-even z e))
 
-outward-even : {size : ℕ} {a : ByteAddress} (n : ℕ) → Sized size → Even size a → Always (λ (m : Moved). Even size (m .address)) (outwardOf size a n)
+outward-even : {size : ℕ} {a : ByteAddress} (n : ℕ) → Sized size → TransferIn size a → Always (λ (m : Moved). TransferIn size (m .address)) (outwardOf size a n)
 unfolding outwardOf
 outward-even zero z e = ends e
 outward-even (suc n) z e = always-bind (always-any _) (λ v _. always-bind (outward-even n z (forward-even z e)) (λ m f. ends f))
 
 -- ---- a tick
 
--- the reverb's place, from its base to L-2
-record Place (size base place : ℕ) : Type 0 where
-  pub even : place % 2 ≡ 0
-  pub least : base ≤ place
-  pub most : place ≤ size - 2
-
-moved-place : {size base place : ℕ} (right : Bool) → Sized size → base % 2 ≡ 0 → base ≤ size - 2 → Place size base place → Place size base (placeAfter size base right place)
+moved-place : {size base place : ℕ} (right : Bool) → Sized size → base % 2 ≡ 0 → base ≤ size - 2 → PlaceIn size base place → PlaceIn size base (placeAfter size base right place)
 unfolding placeAfter
 moved-place false z e m p = p
 moved-place {size} {base} {place} true z e m p = by (eqb (place + 2) size) refl
   where
-    by : (b : Bool) → eqb (place + 2) size ≡ b → Place size base (cond b base (place + 2))
+    by : (b : Bool) → eqb (place + 2) size ≡ b → PlaceIn size base (cond b base (place + 2))
     by true t = record { even = e; least = omega arith; most = m }
     by false t =
         let v = p .even in
@@ -76,33 +65,22 @@ moved-place {size} {base} {place} true z e m p = by (eqb (place + 2) size) refl
         let n = eqb-false (place + 2) size t in
         record { even = omega arith; least = omega arith; most = omega arith }
 
-reverb-in : {s : State} (sums : Sums) (left right : ℤ) → InRange s → Always (λ (r : Reverb). Place (s .choices .size) (baseOf s .0) (r .place .0)) (reverbOf s sums left right)
+reverb-in : {s : State} (sums : Sums) (left right : ℤ) → InRange s → Always (λ (r : Reverb). PlaceIn (s .choices .size) (baseOf s .0) (r .place .0)) (reverbOf s sums left right)
 unfolding reverbOf reverbAfter
 reverb-in {s} sums left right r =
     let z = sized _ (r .size) in
     always-bind (always-any _) (λ out _. ends (moved-place (s .reverb .right) z (placed-even _ z) (placed-most _ z)
-    (record { even = r .place-even; least = r .place-least; most = r .place-most })))
+    (r .place)))
 
 tick-in : {s : State} (left right : ℤ) → InRange s → Always (λ (a : Reply Pair State). InRange (a .state)) (tickOf s left right)
 unfolding tickOf
 tick-in {s} left right r =
-    let e = r .capture-even in
+    let e = r .capture .even in
     always-bind (voices-in (s .regs) _ 24 _ (sized _ (r .size)) (omega arith) (record { all = r .voices; count = r .shaped .voices })) (λ b i.
     always-bind (always-any _) (λ _ _.
     always-bind (reverb-in (b .sums) left right r) (λ v p.
-    ends (record {
-      shaped = record { regs = r .shaped .regs; voices = i .count };
-      size = r .size;
-      voices = i .all;
-      capture-even = omega arith;
-      capture = omega arith;
-      place-even = p .even;
-      place-least = p .least;
-      place-most = p .most;
-      transfer-even = r .transfer-even;
-      transfer = r .transfer;
-      noise = ticked-in (s .noise) _ (r .noise);
-    }))))
+    ends (record { shaped = record { regs = r .shaped .regs; voices = i .count }; size = r .size; voices = i .all; capture = record { even = omega arith; below = omega arith }; place = p; transfer = r .transfer; noise = ticked-in (s .noise) _ (r .noise) })
+    )))
 
 -- ---- every call
 
@@ -142,9 +120,9 @@ unfolding acceptedOf
 accepted-in (write offset v) s ram marks e r = write-in s offset v (accepted-listed offset v s ram marks e) r
 accepted-in (read offset) s ram marks e r = r
 accepted-in (transferIn vs) s ram marks e r =
-    always-bind (inward-even vs (sized _ (r .size)) (record { even = r .transfer-even; below = r .transfer })) (λ a q. ends (transfer-in r (q .even) (q .below)))
+    always-bind (inward-even vs (sized _ (r .size)) (r .transfer)) (λ a q. ends (transfer-in r q))
 accepted-in (transferOut b) s ram marks e r =
-    always-bind (outward-even (length b) (sized _ (r .size)) (record { even = r .transfer-even; below = r .transfer })) (λ m q. ends (transfer-in r (q .even) (q .below)))
+    always-bind (outward-even (length b) (sized _ (r .size)) (r .transfer)) (λ m q. ends (transfer-in r q))
 accepted-in (tick left right) s ram marks e r = always-bind (tick-in left right r) (λ a q. ends q)
 accepted-in (tickFloats left right) s ram marks e r = always-bind (tick-in left right r) (λ a q. ends q)
 accepted-in reset s ram marks e r = fresh-state-in _ (r .size)
@@ -153,20 +131,7 @@ accepted-in (view a) s ram marks e r = r
 -- what is watched is none of the ranges
 watched-in : {s : State} (w : Watch) → InRange s → InRange (watchedOf s w)
 unfolding watchedOf
-watched-in w r =
-    record {
-      shaped = record { regs = r .shaped .regs; voices = r .shaped .voices };
-      size = r .size;
-      voices = r .voices;
-      capture-even = r .capture-even;
-      capture = r .capture;
-      place-even = r .place-even;
-      place-least = r .place-least;
-      place-most = r .place-most;
-      transfer-even = r .transfer-even;
-      transfer = r .transfer;
-      noise = r .noise;
-    }
+watched-in w r = record { shaped = record { regs = r .shaped .regs; voices = r .shaped .voices }; size = r .size; voices = r .voices; capture = r .capture; place = r .place; transfer = r .transfer; noise = r .noise }
 
 left-in : (d : Doing Answer State) (s : State) (ram marks : List ℕ) → Leaves InRange d → InRange (outcome chip d s ram marks .state)
 unfolding outcome
