@@ -1,14 +1,14 @@
 -- A fresh state is in range, and a register write leaves a state in range. Assumes nothing.
-use mathlib.Core.Path.{_≡_, refl, sym, ap, subst, _∙_}
-use mathlib.Core.Bool.{Bool, true, false, cond, _&&_}
-use mathlib.Core.List.{List, [], _∷_}
+use mathlib.Core.Path.{_≡_, refl, sym, subst, _∙_}
+use mathlib.Core.Bool.{true}
+use mathlib.Core.List.{List}
 use Prim.Native.Nat.{ℕ, zero, suc, _+_, _-_, _/_, _%_, _≤_, _<_}
 use native.Mathlib.Decide.{ℕ-discrete}
 use native.Mathlib.Omega.{arith}
-use lib.Dec.{eqb, ltb}
-use lib.ListN.{length, getD, set, replicate, length-set, getD-replicate}
+use lib.Dec.{eqb}
+use lib.ListN.{length, set, length-set, getD-replicate}
 use lib.Seq.{getD-set-same, getD-set-other}
-use borrow.Author.Tests.{eqb-true, eqb-false, ltb-true}
+use borrow.Author.Tests.{eqb-true}
 use Rattle.fixed.specs.Bits.{bit}
 use Rattle.noise.specs.Noise as noise
 use Rattle.noise.proofs.Range.{written-in}
@@ -16,17 +16,17 @@ use Rattle.soundram.specs.declared.ByteAddress.{ByteAddress}
 use Rattle.soundram.specs.declared.UnitAddress.{UnitAddress}
 use Rattle.soundram.specs.Address.{addressOf, Sized}
 use Rattle.soundram.proofs.Addresses.{address-small, address-below, address-multiple}
-use Rattle.registers.specs.Map.{registerAt, ofVoice}
+use Rattle.registers.specs.Map.{registerAt}
 use Rattle.voice.specs.declared.Voice.{Voice}
-use Rattle.voice.specs.Voice.{fresh, keyedOn, keyedOff, stoppedOf}
+use Rattle.voice.specs.Voice.{fresh}
 use Rattle.voice.specs.Range as voice
 use Rattle.voice.proofs.Range.{fresh-in, keyed-on-in, keyed-off-in, stopped-in}
 use Rattle.voices.specs.Voices.{pastEnd, AllIn}
 use Rattle.voices.proofs.Turns.{all-set}
 use Rattle.chip.specs.declared.State.{State}
-use Rattle.chip.specs.State.{withRegs, withVoices, withReverb, withTransfer, freshOf, sizeOk, baseOf}
-use Rattle.chip.specs.Registers.{isVoice, listed, isRepeat, onBits, onKeys, keyOn, keyOff, setRepeat, repeated, stopFirst, setControl, placed, effectOf, writeOf}
-use Rattle.chip.specs.Range.{Shaped, TransferIn, InRange}
+use Rattle.chip.specs.State.{withRegs, withVoices, withTransfer, freshOf, sizeOk}
+use Rattle.chip.specs.Registers.{listed, onBits, onKeys, keyOn, keyOff, setRepeat, repeated, stopFirst, setControl, effectOf, writeOf}
+use Rattle.chip.specs.Range.{TransferIn, InRange}
 use Rattle.chip.proofs.Writes.{of-both, of-effects}
 use Rattle.chip.proofs.Tests.{and-first, sized}
 use Rattle.chip.proofs.Parts.{voice-number}

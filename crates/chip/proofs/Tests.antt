@@ -6,12 +6,12 @@ use Prim.Native.Nat.{ℕ, zero, suc, _≤_, _<_}
 use native.Mathlib.Decide.{ℕ-discrete}
 use native.Mathlib.Omega.{arith}
 use lib.Dec.{eqb, leb}
-use lib.ListN.{length, getD}
+use lib.ListN.{getD}
 use borrow.Author.Tests.{ltb-true, leb-true, eqb-true, lt-ltb, le-leb, eq-eqb}
 use Rattle.soundram.specs.Address.{Sized}
 use Rattle.voice.specs.declared.Voice.{Voice}
 use Rattle.voice.specs.Range as voice
-use Rattle.voices.specs.Voices.{pastEnd, AllIn}
+use Rattle.voices.specs.Voices.{pastEnd}
 use Rattle.chip.specs.declared.State.{State}
 use Rattle.chip.specs.State.{allOf, sizeOk, voiceOk, everyOk, stateOk}
 use Rattle.chip.specs.Range.{Shaped, InRange}

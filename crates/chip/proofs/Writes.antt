@@ -3,7 +3,6 @@ use mathlib.Core.Path.{_≡_, refl}
 use mathlib.Core.Bool.{Bool, true, false, cond}
 use Prim.Native.Nat.{ℕ, _-_, _/_}
 use lib.Dec.{eqb}
-use Rattle.soundram.specs.declared.ByteAddress.{ByteAddress}
 use Rattle.chip.specs.declared.State.{State}
 use Rattle.chip.specs.State.{withReverb, withTransfer}
 use Rattle.chip.specs.Registers.{isRepeat, isKeyOn, isKeyOff, placed, keyOn, keyOff, setRepeat, setControl, effectOf, writeOf}

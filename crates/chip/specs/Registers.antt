@@ -1,7 +1,7 @@
 -- Register reads and writes. Assumes nothing.
 use mathlib.Core.Bool.{Bool, true, false, cond, _&&_, _||_, not}
-use mathlib.Core.List.{List, [], _∷_}
-use Prim.Native.Nat.{ℕ, zero, suc, _+_, _-_, _*_, _/_, _%_, _^_}
+use mathlib.Core.List.{List}
+use Prim.Native.Nat.{ℕ, zero, suc, _+_, _-_, _/_, _%_, _^_}
 use lib.Dec.{eqb, leb, ltb}
 use lib.ListN.{getD, set}
 use Rattle.fixed.specs.Bits.{bit, field}
@@ -9,14 +9,13 @@ use Rattle.fixed.specs.Signed.{bitsOf}
 use Rattle.fixed.specs.Arithmetic.{volumeOf}
 use Rattle.noise.specs.Noise.{writtenOf}
 use Rattle.soundram.specs.declared.ByteAddress.{ByteAddress}
-use Rattle.soundram.specs.declared.UnitAddress.{UnitAddress}
 use Rattle.soundram.specs.Address.{addressOf}
 use Rattle.registers.specs.Map.{registerAt, ofVoice}
 use Rattle.voice.specs.declared.Voice.{Voice}
 use Rattle.voice.specs.Voice.{keyedOn, keyedOff, stoppedOf}
 use Rattle.voices.specs.Voices.{pastEnd}
 use Rattle.chip.specs.declared.State.{State}
-use Rattle.chip.specs.State.{withRegs, withVoices, withNoise, withControl, withReverb, withTransfer}
+use Rattle.chip.specs.State.{withRegs, withVoices, withReverb, withTransfer}
 
 -- ---- which offsets there are
 

@@ -6,9 +6,7 @@ use lib.Dec.{eqb, leb, ltb}
 use lib.ListN.{getD, replicate, set}
 use lib.IntN.{pos}
 use Rattle.envelope.specs.Adsr.{active}
-use Rattle.noise.specs.declared.Noise.{Noise}
 use Rattle.soundram.specs.declared.ByteAddress.{ByteAddress}
-use Rattle.soundram.specs.declared.UnitAddress.{UnitAddress}
 use Rattle.soundram.specs.declared.Watch.{Watch}
 use Rattle.soundram.specs.Address.{addressOf, halfwordOf}
 use Rattle.fixed.specs.Bits.{bit}
@@ -27,9 +25,6 @@ withRegs s r = record { choices = s .choices; regs = r; voices = s .voices; nois
 
 abbrev pub withVoices : State → List Voice → State
 withVoices s v = record { choices = s .choices; regs = s .regs; voices = v; noise = s .noise; control = s .control; capture = s .capture; reverb = s .reverb; transfer = s .transfer; tick = s .tick }
-
-abbrev pub withNoise : State → Noise → State
-withNoise s n = record { choices = s .choices; regs = s .regs; voices = s .voices; noise = n; control = s .control; capture = s .capture; reverb = s .reverb; transfer = s .transfer; tick = s .tick }
 
 abbrev pub withControl : State → Control → State
 withControl s c = record { choices = s .choices; regs = s .regs; voices = s .voices; noise = s .noise; control = c; capture = s .capture; reverb = s .reverb; transfer = s .transfer; tick = s .tick }

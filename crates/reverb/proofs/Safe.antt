@@ -1,17 +1,16 @@
 -- A turn is safe where its reads count; and where they do not, if it writes nothing and its output volume is 0: its output is then 0,
 -- whatever it read. Assumes nothing.
-use mathlib.Core.Path.{_≡_, refl, sym, ap, _∙_}
-use mathlib.Core.Bool.{Bool, true, false}
+use mathlib.Core.Path.{_≡_, sym, _∙_}
+use mathlib.Core.Bool.{true, false}
 use mathlib.Core.List.{List}
 use Prim.Native.Nat.{ℕ}
-use lib.IntN.{ℤ, pos, _*ℤ_, *ℤ-zero}
-use lib.Signed.{shrZ}
+use lib.IntN.{ℤ, pos, *ℤ-zero}
 use Rattle.fixed.specs.Range.{In}
 use Rattle.fixed.specs.Signed.{signed}
 use Rattle.fixed.specs.Arithmetic.{saturated, productOf}
 use Rattle.fixed.proofs.Saturation.{saturated-in}
 use Rattle.registers.specs.Map.{registerAt}
-use Rattle.soundram.specs.Program.{Prog, done, bind, get, branch}
+use Rattle.soundram.specs.Program.{bind, get, branch}
 use Rattle.soundram.specs.TwoRuns.{Rel, both-done, blind, Safe}
 use Rattle.soundram.proofs.Programs.{Always, ends, always-any, always-bind}
 use Rattle.soundram.proofs.TwoRuns.{rel-bind, safe-done, safe-bind, safe-get, safe-put, safe-branch}

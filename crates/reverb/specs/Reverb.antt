@@ -1,5 +1,5 @@
 -- One turn of the reverb: 000's formula, statement by statement. Assumes nothing.
-use mathlib.Core.Bool.{Bool, true, false, cond}
+use mathlib.Core.Bool.{cond}
 use mathlib.Core.List.{List}
 use Prim.Native.Nat.{ℕ, _+_, _-_, _*_, _/_}
 use lib.IntN.{ℤ, pos, _+ℤ_, _-ℤ_}

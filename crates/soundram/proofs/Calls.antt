@@ -5,8 +5,8 @@ use mathlib.Core.List.{List, [], _∷_}
 use Prim.Native.Nat.{ℕ}
 use lib.ListN.{length}
 use Rattle.soundram.specs.Memory.{marked}
-use Rattle.soundram.specs.Program.{Prog, Mem, memOf, Result, run, trace, anyUnmarked}
-use Rattle.soundram.specs.TwoRuns.{AgreeAt, Agree, Same, doubted, alike, Safe}
+use Rattle.soundram.specs.Program.{Prog, memOf, run, trace, anyUnmarked}
+use Rattle.soundram.specs.TwoRuns.{AgreeAt, Agree, Same, doubted, alike}
 use Rattle.soundram.specs.Calls.{Reply, Doing, still, works, Machine, Outcome, outcome, log, Alike, Sure, Doubtful, Indistinct, both-end, both-sure, both-doubt, SafeDoing, Sound}
 use Rattle.soundram.specs.declared.Watch.{Watch}
 use Rattle.soundram.proofs.Programs.{doubt-is}

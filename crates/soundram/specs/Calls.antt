@@ -6,7 +6,7 @@ use mathlib.Core.List.{List, [], _∷_}
 use Prim.Native.Nat.{ℕ}
 use lib.ListN.{length}
 use Rattle.soundram.specs.Memory.{marked}
-use Rattle.soundram.specs.Program.{Prog, Mem, memOf, run, Access, trace, anyUnmarked}
+use Rattle.soundram.specs.Program.{Prog, memOf, run, Access, trace, anyUnmarked}
 use Rattle.soundram.specs.TwoRuns.{AgreeAt, Safe}
 use Rattle.soundram.specs.declared.Watch.{Watch}
 

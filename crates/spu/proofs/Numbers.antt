@@ -1,17 +1,15 @@
 -- Calls that touch no memory, from the numbers that they give. Assumes nothing.
-use mathlib.Core.Path.{_≡_, refl, ap, sym, _∙_}
-use mathlib.Core.Bool.{Bool, true, false, not, _&&_}
+use mathlib.Core.Path.{_≡_, refl, sym, _∙_}
+use mathlib.Core.Bool.{Bool, true, false, not}
 use mathlib.Core.List.{List, [], _∷_}
 use Prim.Native.Nat.{ℕ, _<_}
 use native.Mathlib.Omega.{arith}
 use borrow.Author.Tests.{eq-eqb, ne-eqb, not-false}
-use Rattle.soundram.specs.Calls.{Doing, still}
 use Rattle.chip.specs.declared.State.{State}
 use Rattle.chip.specs.State.{freshOf, sizeOk, stateOk}
 use Rattle.chip.specs.Registers.{listed, readOnly, notWritten, writeOf, readOf}
 use Rattle.chip.proofs.Tests.{ok-sized}
-use Rattle.spu.specs.declared.Changed.{Changed}
-use Rattle.spu.specs.Step.{Call, write, read, reset, Answer, written, value, made, Test, test, firstOf, numberOf, refusedOf, acceptedOf, stepOf, Gives, makeOf}
+use Rattle.spu.specs.Step.{write, read, reset, written, value, made, Test, test, firstOf, numberOf, refusedOf, acceptedOf, stepOf, Gives, makeOf}
 use Rattle.spu.proofs.Range.{accepted-ok, accepted-listed, passed-first, passed-rest}
 
 -- ---- making

@@ -1,36 +1,32 @@
 -- Every accepted call leaves a state in range. Assumes nothing.
-use mathlib.Core.Path.{_≡_, refl, sym, ap, subst, _∙_}
-use mathlib.Core.Bool.{Bool, true, false, cond, not, false≢true}
+use mathlib.Core.Path.{_≡_, refl, sym, subst}
+use mathlib.Core.Bool.{Bool, true, false, cond}
 use mathlib.Core.List.{List, [], _∷_}
-use Prim.Native.Nat.{ℕ, zero, suc, _+_, _-_, _%_, _≤_, _<_}
+use Prim.Native.Nat.{ℕ, zero, suc, _+_, _-_, _%_, _≤_}
 use native.Mathlib.Omega.{arith}
 use lib.Dec.{eqb}
 use lib.ListN.{length}
 use lib.IntN.{ℤ}
-use borrow.Author.Tests.{eqb-true, eqb-false, not-false}
-use Rattle.noise.specs.Noise.{tickedOf}
+use borrow.Author.Tests.{eqb-false, not-false}
 use Rattle.noise.proofs.Range.{ticked-in}
 use Rattle.soundram.specs.declared.ByteAddress.{ByteAddress}
 use Rattle.soundram.specs.Address.{forwardOf, Sized}
 use Rattle.soundram.specs.declared.Watch.{Watch}
-use Rattle.soundram.specs.Program.{Prog}
 use Rattle.soundram.specs.Calls.{Reply, Doing, still, works, outcome}
 use Rattle.soundram.proofs.Addresses.{forward-multiple, forward-below}
 use Rattle.soundram.proofs.Programs.{Always, ends, always-any, always-bind, always-run}
-use Rattle.registers.specs.Map.{registerAt}
 use Rattle.voices.specs.declared.Sums.{Sums}
-use Rattle.voices.specs.Voices.{Bank}
-use Rattle.voices.proofs.Turns.{BankIn, voices-in}
+use Rattle.voices.proofs.Turns.{voices-in}
 use Rattle.chip.specs.declared.Reverb.{Reverb}
 use Rattle.chip.specs.declared.State.{State}
-use Rattle.chip.specs.State.{withReverb, withTransfer, baseOf, stateOk, watchedOf}
+use Rattle.chip.specs.State.{baseOf, stateOk, watchedOf}
 use Rattle.chip.specs.Registers.{listed}
 use Rattle.chip.specs.Range.{Shaped, PlaceIn, TransferIn, InRange}
 use Rattle.chip.proofs.Tests.{in-range, sized}
 use Rattle.chip.proofs.Ranges.{placed-even, placed-most, write-in, transfer-in, fresh-state-in}
 use Rattle.spu.specs.Tick.{Pair, placeAfter, reverbAfter, reverbOf, tickOf}
 use Rattle.spu.specs.Transfer.{Moved, inwardOf, outwardOf}
-use Rattle.spu.specs.Step.{Call, write, read, transferIn, transferOut, tick, tickFloats, reset, view, Answer, Test, firstOf, testsOf, numberOf, refusedOf, acceptedOf, stepOf, chip}
+use Rattle.spu.specs.Step.{Call, write, read, transferIn, transferOut, tick, tickFloats, reset, view, Answer, Test, firstOf, numberOf, refusedOf, acceptedOf, stepOf, chip}
 
 -- ---- transfers
 

@@ -1,22 +1,22 @@
 -- Every call, with its refusals, as one step of a machine. Assumes nothing.
 use mathlib.Core.Path.{_≡_}
-use mathlib.Core.Bool.{Bool, true, false, cond, _&&_, _||_, not}
+use mathlib.Core.Bool.{Bool, cond, _||_, not}
 use mathlib.Core.List.{List, [], _∷_}
 use Prim.Native.Nat.{ℕ, _-_, _/_, _%_}
-use lib.Dec.{eqb, leb, ltb}
+use lib.Dec.{eqb, ltb}
 use lib.ListN.{length}
 use lib.IntN.{ℤ, pos}
 use Rattle.fixed.specs.Bits.{field}
 use Rattle.stereo.specs.declared.Stereo.{Stereo}
 use Rattle.stereo.specs.Float.{stereoOf}
-use Rattle.soundram.specs.Program.{Prog, done, bind}
+use Rattle.soundram.specs.Program.{done, bind}
 use Rattle.soundram.specs.Calls.{Reply, Doing, still, works, Machine}
 use Rattle.chip.specs.declared.State.{State}
 use Rattle.chip.specs.State.{withTransfer, freshOf, sizeOk, stateOk, watchOf, watchedOf}
 use Rattle.chip.specs.Registers.{listed, readOnly, notWritten, notRead, writeOf, readOf}
 use Rattle.spu.specs.declared.Changed.{Changed}
 use Rattle.spu.specs.Tick.{Pair, tickOf}
-use Rattle.spu.specs.Transfer.{Moved, inwardOf, outwardOf}
+use Rattle.spu.specs.Transfer.{inwardOf, outwardOf}
 
 -- a call with its fixed arguments; an outgoing buffer is lent with its contents
 pub data Call : Type 0 where

@@ -1,21 +1,19 @@
 -- One tick, in document 01's order: control, noise, voices, mix, capture, reverb, tick number. Assumes nothing.
-use mathlib.Core.Bool.{Bool, true, false, cond, _&&_, not}
-use mathlib.Core.List.{List, [], _∷_}
-use Prim.Native.Nat.{ℕ, _+_, _*_, _/_, _%_, _^_}
+use mathlib.Core.Bool.{Bool, cond, _&&_, not}
+use mathlib.Core.List.{List}
+use Prim.Native.Nat.{ℕ, _+_, _/_, _%_, _^_}
 use lib.Dec.{eqb}
 use lib.IntN.{ℤ, pos, _+ℤ_}
 use Rattle.fixed.specs.Bits.{bit}
 use Rattle.fixed.specs.Signed.{signed, bitsOf}
 use Rattle.fixed.specs.Arithmetic.{saturated, productOf, volumeOf}
-use Rattle.noise.specs.declared.Noise.{Noise}
 use Rattle.noise.specs.Noise.{tickedOf}
-use Rattle.soundram.specs.declared.ByteAddress.{ByteAddress}
 use Rattle.soundram.specs.Program.{Prog, done, bind, put, repeat}
 use Rattle.soundram.specs.Calls.{Reply}
 use Rattle.registers.specs.Map.{registerAt}
 use Rattle.voices.specs.declared.Sums.{Sums}
 use Rattle.voices.specs.declared.Captured.{Captured}
-use Rattle.voices.specs.Voices.{Bank, noSums, voiceAt}
+use Rattle.voices.specs.Voices.{noSums, voiceAt}
 use Rattle.reverb.specs.declared.Area.{Area}
 use Rattle.reverb.specs.declared.Turning.{Turning}
 use Rattle.reverb.specs.Reverb.{turnOf}

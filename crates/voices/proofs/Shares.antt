@@ -1,16 +1,15 @@
 -- Sides and sums, from what the code's parts give, and their ranges. Assumes nothing.
-use mathlib.Core.Path.{_≡_, refl, sym, subst}
+use mathlib.Core.Path.{_≡_}
 use mathlib.Core.Bool.{Bool, true, false, cond, _&&_}
 use mathlib.Core.List.{List}
-use Prim.Native.Nat.{ℕ, _+_, _*_, _≤_, _<_}
+use Prim.Native.Nat.{ℕ, _+_, _*_, _<_}
 use native.Mathlib.Omega.{arith}
 use lib.Dec.{ltb}
 use borrow.Author.Tests.{ne-eqb}
 use lib.IntN.{ℤ, pos, _+ℤ_}
-use Rattle.fixed.specs.Range.{In, up, dn}
+use Rattle.fixed.specs.Range.{In}
 use Rattle.fixed.proofs.Number.{add-in}
 use Rattle.registers.specs.Map.{ofVoice, flagOf}
-use Rattle.voice.specs.declared.Settings.{Settings}
 use Rattle.voices.specs.declared.Sides.{Sides}
 use Rattle.voices.specs.declared.Captured.{Captured}
 use Rattle.voices.specs.declared.Sums.{Sums}

@@ -1,7 +1,7 @@
 -- The voices one after the other. Assumes nothing.
-use mathlib.Core.Path.{_≡_, refl, sym, subst, _∙_}
+use mathlib.Core.Path.{_≡_, sym, subst, _∙_}
 use mathlib.Core.List.{List}
-use Prim.Native.Nat.{ℕ, zero, suc, _+_, _≤_, _<_}
+use Prim.Native.Nat.{ℕ, zero, suc, _≤_, _<_}
 use native.Mathlib.Decide.{ℕ-discrete}
 use native.Mathlib.Omega.{arith}
 use lib.ListN.{length, getD, set, length-set}
@@ -15,7 +15,7 @@ use Rattle.soundram.proofs.Programs.{Always, ends, always-bind, always-does, do
 use Rattle.soundram.proofs.TwoRuns.{safe-done, safe-bind, safe-repeat}
 use Rattle.voice.specs.declared.Voice.{Voice}
 use Rattle.voice.specs.declared.Settings.{Settings}
-use Rattle.voice.specs.Voice.{Tick, tickOf}
+use Rattle.voice.specs.Voice.{tickOf}
 use Rattle.voice.specs.Range.{InRange}
 use Rattle.voice.proofs.Range.{tick-in}
 use Rattle.voice.proofs.Safe.{safe-tick}

@@ -1,10 +1,8 @@
-use mathlib.Core.Path.{ap₂}
 use Prim.Native.Nat.{_*_}
 use lib.IntN.{ℤ}
 use mir.Syntax.{w32}
 use Rattle.fixed.specs.Range.{In}
 use Rattle.fixed.proofs.Number.{Num, arg-in, fit, add, need, hold, is}
-use Rattle.voices.specs.declared.Sides.{Sides}
 use Rattle.voices.specs.Voices.{joinedOf}
 use Rattle.voices.proofs.join.Statement.{statement}
 use Rattle.voices.proofs.join.Tie as tie
