@@ -12,7 +12,7 @@ use Rattle.fixed.proofs.Saturation.{saturated-in}
 use Rattle.registers.specs.Map.{registerAt}
 use Rattle.soundram.specs.Program.{bind, get, branch}
 use Rattle.soundram.specs.TwoRuns.{Rel, both-done, blind, Safe}
-use Rattle.soundram.proofs.Programs.{Always, ends, always-any, always-bind}
+use Rattle.soundram.proofs.Programs.{Always, ends, always-any, always-bind, Reads, reads-done, reads-on, reads-bind}
 use Rattle.soundram.proofs.TwoRuns.{rel-bind, safe-done, safe-bind, safe-get, safe-put, safe-branch}
 use Rattle.reverb.specs.declared.Area.{Area}
 use Rattle.reverb.specs.declared.Turning.{Turning}
@@ -89,6 +89,40 @@ module _ (regs : List ℕ) (area : Area) (t : Turning) where
         rel-bind (blind-reflection _ _ _ _) (λ _ _ _. rel-bind (blind-reflection _ _ _ _) (λ _ _ _.
         rel-bind blind-combs (λ a a′ _. rel-bind (blind-all-pass _ _ _ a a′) (λ b b′ _. rel-bind (blind-all-pass _ _ _ b b′) (λ c c′ _.
         both-done (silent c e ∙ sym (silent c′ e)))))))
+
+    -- the output is then 0
+    pub silent-turn : (input : ℤ) → registerAt regs (own regs area t 0x184) ≡ 0 → Always (λ (out : ℤ). out ≡ pos 0) (turnOf regs area t input)
+    unfolding turnOf
+    silent-turn input e =
+        always-bind (always-any _) (λ _ _. always-bind (always-any _) (λ _ _. always-bind (always-any _) (λ a _.
+        always-bind (always-any _) (λ b _. always-bind (always-any _) (λ c _. ends (silent c e))))))
+
+    -- and nothing is written
+    reads-fetch : (d : ℤ) → Reads (fetch regs area t d)
+    unfolding fetch get bind
+    reads-fetch d = reads-on (λ v. reads-done)
+
+    reads-store : (d x : ℤ) → Reads (store regs area t d x)
+    unfolding store branch
+    reads-store d x = rw w reads-done
+
+    reads-reflection : (x m d : ℤ) → Reads (reflection regs area t x m d)
+    unfolding reflection
+    reads-reflection x m d = reads-bind (reads-fetch _) (λ a. reads-bind (reads-fetch _) (λ b. reads-bind (reads-fetch _) (λ c. reads-store _ _)))
+
+    reads-combs : Reads (combs regs area t)
+    unfolding combs
+    reads-combs = reads-bind (reads-fetch _) (λ a. reads-bind (reads-fetch _) (λ b. reads-bind (reads-fetch _) (λ c. reads-bind (reads-fetch _) (λ d. reads-done))))
+
+    reads-all-pass : (v m d x : ℤ) → Reads (allPass regs area t v m d x)
+    unfolding allPass
+    reads-all-pass v m d x = reads-bind (reads-fetch _) (λ a. reads-bind (reads-store _ _) (λ _. reads-bind (reads-fetch _) (λ b. reads-done)))
+
+    pub reads-turn : (input : ℤ) → Reads (turnOf regs area t input)
+    unfolding turnOf
+    reads-turn input =
+        reads-bind (reads-reflection _ _ _) (λ _. reads-bind (reads-reflection _ _ _) (λ _.
+        reads-bind reads-combs (λ a. reads-bind (reads-all-pass _ _ _ a) (λ b. reads-bind (reads-all-pass _ _ _ b) (λ c. reads-done)))))
 
   -- ---- the output is one of 16 bits
 

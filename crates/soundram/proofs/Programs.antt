@@ -179,6 +179,27 @@ unfolding branch
 always-branch true f g = f refl
 always-branch false f g = g refl
 
+-- ---- programs that write nothing: RAM and marks stay as they are
+
+pub data Reads {A : Type 0} : Prog A → Type 0 where
+  reads-done : {a : A} → Reads (done a)
+  reads-on : {who : Reader} {c : Bool} {h : ℕ} {k : ℕ → Prog A} → ((v : ℕ) → Reads (k v)) → Reads (read who c h k)
+
+pub reads-bind : {A B : Type 0} {p : Prog A} {f : A → Prog B} → Reads p → ((a : A) → Reads (f a)) → Reads (bind p f)
+unfolding bind
+reads-bind reads-done g = g _
+reads-bind (reads-on k) g = reads-on (λ v. reads-bind (k v) g)
+
+pub reads-ram : {A : Type 0} {p : Prog A} → Reads p → (m : Mem) → run p m .mem .ram ≡ m .ram
+unfolding run
+reads-ram reads-done m = refl
+reads-ram (reads-on k) m = reads-ram (k _) _
+
+pub reads-marks : {A : Type 0} {p : Prog A} → Reads p → (m : Mem) → run p m .mem .marks ≡ m .marks
+unfolding run
+reads-marks reads-done m = refl
+reads-marks (reads-on k) m = reads-marks (k _) _
+
 -- ---- what is lent stays lent
 
 pub lent-after : {A : Type 0} {p : Prog A} {size : ℕ} {m n : Mem} {a : A} → Does p m a n → Lent size (m .ram) (m .marks) → Lent size (n .ram) (n .marks)

@@ -1,14 +1,15 @@
 -- Every call's program is safe: its answer and its writes are the same whatever its uncounted reads give. Assumes nothing.
 use mathlib.Core.Path.{_≡_, refl}
-use mathlib.Core.Bool.{Bool, true, false, _&&_, not}
+use mathlib.Core.Bool.{Bool, true, false, cond, _&&_, not}
 use mathlib.Core.List.{List, [], _∷_}
-use Prim.Native.Nat.{ℕ, zero, suc}
+use Prim.Native.Nat.{ℕ, zero, suc, _+_}
 use borrow.Author.Tests.{eqb-true}
-use lib.IntN.{ℤ}
+use lib.IntN.{ℤ, pos}
 use Rattle.fixed.specs.Bits.{bit}
 use Rattle.soundram.specs.declared.ByteAddress.{ByteAddress}
 use Rattle.soundram.specs.Address.{forwardOf}
 use Rattle.soundram.specs.TwoRuns.{Safe}
+use Rattle.soundram.proofs.Programs.{Always, ends, always-bind, Reads, reads-done, reads-bind}
 use Rattle.soundram.proofs.TwoRuns.{safe-done, safe-bind, safe-get, safe-put}
 use Rattle.registers.specs.Map.{registerAt}
 use Rattle.voices.specs.declared.Sums.{Sums}
@@ -17,9 +18,10 @@ use Rattle.voices.proofs.Turns.{safe-voices}
 use Rattle.reverb.specs.declared.Area.{Area}
 use Rattle.reverb.specs.declared.Turning.{Turning}
 use Rattle.reverb.specs.Reverb.{own, turnOf}
-use Rattle.reverb.proofs.Safe.{counted-turn, blind-turn}
+use Rattle.reverb.proofs.Safe.{counted-turn, blind-turn, silent-turn, reads-turn}
+use Rattle.chip.specs.declared.Reverb.{Reverb}
 use Rattle.chip.specs.declared.State.{State}
-use Rattle.spu.specs.Tick.{captureOf, turningOf, reverbOf, tickOf}
+use Rattle.spu.specs.Tick.{captureOf, turningOf, reverbAfter, reverbOf, tickOf}
 use Rattle.spu.specs.Transfer.{inwardOf, outwardOf}
 
 -- ---- transfers
@@ -60,3 +62,19 @@ pub safe-tick : (s : State) (left right : ℤ) → Safe (tickOf s left right)
 unfolding tickOf
 safe-tick s left right =
     safe-bind (safe-voices _ (s .regs) _ 24 _) (λ b. safe-bind (safe-capture _ left right _) (λ _. safe-bind (safe-reverb s (b .sums) left right) (λ r. safe-done _)))
+
+-- ---- the reads that do not count: the held output of that side is then 0, and nothing is written
+
+module _ (s : State) (sums : Sums) (left right : ℤ) (off : bit 7 (registerAt (s .regs) 0x1AA) ≡ false) where
+  pub unwritten : Reads (reverbOf s sums left right)
+  unfolding reverbOf turningOf
+  unwritten = reads-bind (reads-turn (s .regs) _ _ off _) (λ out. reads-done)
+
+  pub unheard : registerAt (s .regs) (0x184 + cond (s .reverb .right) 2 0) ≡ 0
+      → Always (λ (r : Reverb). cond (s .reverb .right) (r .held .right) (r .held .left) ≡ pos 0) (reverbOf s sums left right)
+  unfolding reverbOf turningOf reverbAfter
+  unheard none = always-bind (silent-turn (s .regs) _ _ off _ none) (λ out e. ends (by (s .reverb .right) out e))
+    where
+      by : (b : Bool) (out : ℤ) → out ≡ pos 0 → cond b (cond b out (s .reverb .held .right)) (cond b (s .reverb .held .left) out) ≡ pos 0
+      by true out e = e
+      by false out e = e
