@@ -8,8 +8,8 @@ use native.Mathlib.Omega.{arith}
 use borrow.Author.Tests.{not-true, not-false, ltb-true, leb-true, eq-eqb, ne-eqb}
 use lib.Dec.{eqb, leb, ltb}
 use lib.Pow.{pow-mono}
-use lib.ListN.{getD, replicate, set}
-use lib.IntN.{ℤ, pos}
+use lib.ListN.{getD, set}
+use lib.IntN.{ℤ}
 use Rattle.fixed.specs.Bits.{bit, field}
 use Rattle.fixed.specs.Signed.{bitsOf}
 use Rattle.fixed.specs.Arithmetic.{volumeOf}
@@ -24,22 +24,11 @@ use Rattle.voice.specs.declared.Voice.{Voice}
 use Rattle.voice.specs.Voice.{fresh, keyedOn, keyedOff, stoppedOf}
 use Rattle.voices.specs.Voices.{pastEnd}
 use Rattle.chip.specs.declared.State.{State}
-use Rattle.chip.specs.State.{withRegs, withVoices, withReverb, withTransfer, freshOf, allOf, sizeOk, voiceOk, everyOk, baseOf, stateOk}
-use Rattle.chip.specs.Registers.{onBits, onKeys, keyed, keyOn, keyOff, repeated, setRepeat, stopFirst, setControl, isRepeat, isKeyOn, isKeyOff, placed, effectOf, between, listed, writeOf, endFlags, isLevel, statusOf, doubled, voiceAt, readOf}
+use Rattle.chip.specs.State.{withRegs, withVoices, withReverb, withTransfer, madeOf, freshOf, allOf, sizeOk, voiceOk, everyOk, baseOf, stateOk}
+use Rattle.chip.specs.Registers.{isVoice, onBits, onKeys, keyed, keyOn, keyOff, repeated, setRepeat, stopFirst, setControl, isRepeat, isKeyOn, isKeyOff, placed, effectOf, between, listed, writeOf, endFlags, isLevel, statusOf, doubled, voiceAt, readOf}
 use Rattle.chip.proofs.Tests.{and-first, and-rest, sized}
 
-pub fresh-as : (size : ℕ) {v : Voice} → v ≡ fresh
-    → record {
-      choices = record { size = size };
-      regs = set (replicate 256 0) 0xD6 4;
-      voices = replicate 24 v;
-      noise = record { level = 0; timer = 0x20000 };
-      control = record { applied = 0; latch = false; doubt = false };
-      capture = 0;
-      reverb = record { place = record { 0 = 0 }; right = false; held = record { left = pos 0; right = pos 0 } };
-      transfer = record { 0 = 0 };
-      tick = 0;
-    } ≡ freshOf size
+pub fresh-as : (size : ℕ) {v : Voice} → v ≡ fresh → madeOf size v ≡ freshOf size
 unfolding freshOf
 fresh-as size e = rw e
 
@@ -198,15 +187,16 @@ pub effect-none : (s : State) (offset old value : ℕ) → isRepeat offset ≡ f
 unfolding effectOf
 effect-none s offset old value a b c d e f = rw (a, b, c, ne-eqb offset 0x1A2 d, ne-eqb offset 0x1A6 e, ne-eqb offset 0x1AA f)
 
--- the voice of an offset, and how far a key register lies from its pair's first
+-- an offset of a voice, by its place there, and the voice's number
+pub of-voice : (k offset : ℕ) → (isVoice offset && eqb (offset % 16) k) ≡ true → offset < 0x180
+of-voice k offset e = ltb-true offset 0x180 (and-first (ltb offset 0x180) _ e)
+
 pub voice-number : (offset : ℕ) → isRepeat offset ≡ true → offset / 16 < 24
-voice-number offset e = omega (arith, ltb-true offset 0x180 (and-first (ltb offset 0x180) _ e))
+voice-number offset e = omega (arith, of-voice 0xE offset e)
 
-pub from-on : (offset : ℕ) → isKeyOn offset ≡ true → 0x188 ≤ offset
-from-on offset e = leb-true 0x188 offset (and-first (leb 0x188 offset) _ e)
-
-pub from-off : (offset : ℕ) → isKeyOff offset ≡ true → 0x18C ≤ offset
-from-off offset e = leb-true 0x18C offset (and-first (leb 0x18C offset) _ e)
+-- an offset between two does not lie below the first
+pub from-low : (low high offset : ℕ) → between low high offset ≡ true → low ≤ offset
+from-low low high offset e = leb-true low offset (and-first (leb low offset) _ e)
 
 or-either : {P : Type 0} (a b : Bool) → (a ≡ true → P) → (b ≡ true → P) → (a || b) ≡ true → P
 or-either true b p q e = p refl
@@ -272,12 +262,6 @@ status-as s p q r t u = rw (p, q, r, t, u)
 pub doubled-as : (s : State) (offset : ℕ) {u w : ℕ} {v x : ℤ} → u ≡ registerAt (s .regs) offset → v ≡ volumeOf u → x ≡ v → w ≡ bitsOf 16 x → w ≡ doubled s offset
 unfolding doubled
 doubled-as s offset e f g h = rw (h, g, f, e)
-
-pub level-voice : (offset : ℕ) → isLevel offset ≡ true → offset < 0x180
-level-voice offset e = ltb-true offset 0x180 (and-first (ltb offset 0x180) _ e)
-
-pub repeat-voice : (offset : ℕ) → isRepeat offset ≡ true → offset < 0x180
-repeat-voice offset e = ltb-true offset 0x180 (and-first (ltb offset 0x180) _ e)
 
 pub read-level : (s : State) (offset : ℕ) {v : Voice} → isLevel offset ≡ true → v ≡ voiceAt s offset → v .envelope .level ≡ readOf s offset
 unfolding readOf

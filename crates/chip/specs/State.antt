@@ -37,12 +37,13 @@ withTransfer s a = record { choices = s .choices; regs = s .regs; voices = s .vo
 
 -- ---- "Fresh state: registers zero except 1ACh = 4; voices Idle; noise 0, timer 20000h; places 0; no doubt; tick number 0."
 
-unfoldable pub freshOf : ℕ → State
-freshOf size =
+-- with each of the voices v
+abbrev pub madeOf : ℕ → Voice → State
+madeOf size v =
     record {
       choices = record { size = size };
       regs = set (replicate 256 0) 0xD6 4;
-      voices = replicate 24 fresh;
+      voices = replicate 24 v;
       noise = record { level = 0; timer = 0x20000 };
       control = record { applied = 0; latch = false; doubt = false };
       capture = 0;
@@ -50,6 +51,9 @@ freshOf size =
       transfer = record { 0 = 0 };
       tick = 0;
     }
+
+unfoldable pub freshOf : ℕ → State
+freshOf size = madeOf size fresh
 
 -- ---- "Ranges (number 2)"
 

@@ -7,7 +7,7 @@ use native.Mathlib.Omega.{arith}
 use borrow.Author.Tests.{eq-eqb, ne-eqb, not-false}
 use Rattle.chip.specs.declared.State.{State}
 use Rattle.chip.specs.State.{freshOf, sizeOk, stateOk}
-use Rattle.chip.specs.Registers.{listed, readOnly, notWritten, writeOf, readOf}
+use Rattle.chip.specs.Registers.{listed, readOnly, notWritten, notRead, writeOf, readOf}
 use Rattle.chip.proofs.Tests.{ok-sized}
 use Rattle.spu.specs.Step.{write, read, reset, written, value, made, Test, test, firstOf, numberOf, refusedOf, acceptedOf, stepOf, Gives, makeOf}
 use Rattle.spu.proofs.Range.{accepted-ok, accepted-listed, passed-first, passed-rest}
@@ -36,46 +36,40 @@ none : 0 ≡ firstOf []
 unfolding firstOf
 none = refl
 
-module _ (s : State) (offset v : ℕ) where
-  -- a is the test of the state, b that of the offset, c and d those of a write
-  pub write-2 : {a : Bool} → a ≡ stateOk s → not a ≡ true → 2 ≡ numberOf (write offset v) s 0 0
-  unfolding numberOf
-  write-2 p e = here _ 2 _ (rw (← p) e)
+-- the first two tests of a register call: a is the code's test of the state, b that of the offset
+abbrev registerTests : State → ℕ → List Test → List Test
+registerTests s offset ts = test (not (stateOk s)) 2 ∷ test (not (listed offset)) 3 ∷ ts
 
-  pub write-3 : {a b : Bool} → a ≡ stateOk s → not a ≡ false → b ≡ listed offset → not b ≡ true → 3 ≡ numberOf (write offset v) s 0 0
-  unfolding numberOf
-  write-3 p e q f = later _ 2 _ (rw (← p) e) (here _ 3 _ (rw (← q) f))
+module _ (s : State) (offset : ℕ) (ts : List Test) where
+  pub out-of-range : {a : Bool} → a ≡ stateOk s → not a ≡ true → 2 ≡ firstOf (registerTests s offset ts)
+  out-of-range p e = here _ 2 _ (rw (← p) e)
 
-  pub write-4 : {a b c : Bool} → a ≡ stateOk s → not a ≡ false → b ≡ listed offset → not b ≡ false → c ≡ readOnly offset → c ≡ true → 4 ≡ numberOf (write offset v) s 0 0
-  unfolding numberOf
-  write-4 p e q f r g = later _ 2 _ (rw (← p) e) (later _ 3 _ (rw (← q) f) (here _ 4 _ (rw (← r) g)))
+  pub unlisted : {a b : Bool} → a ≡ stateOk s → not a ≡ false → b ≡ listed offset → not b ≡ true → 3 ≡ firstOf (registerTests s offset ts)
+  unlisted p e q f = later _ 2 _ (rw (← p) e) (here _ 3 _ (rw (← q) f))
 
-  pub write-5 : {a b c d : Bool} → a ≡ stateOk s → not a ≡ false → b ≡ listed offset → not b ≡ false → c ≡ readOnly offset → c ≡ false → d ≡ notWritten offset v → d ≡ true
-      → 5 ≡ numberOf (write offset v) s 0 0
-  unfolding numberOf
-  write-5 p e q f r g t h = later _ 2 _ (rw (← p) e) (later _ 3 _ (rw (← q) f) (later _ 4 _ (rw (← r) g) (here _ 5 _ (rw (← t) h))))
+  pub carried : {a b : Bool} {n : ℕ} → a ≡ stateOk s → not a ≡ false → b ≡ listed offset → not b ≡ false → n ≡ firstOf ts → n ≡ firstOf (registerTests s offset ts)
+  carried p e q f g = later _ 2 _ (rw (← p) e) (later _ 3 _ (rw (← q) f) g)
 
-  pub write-0 : {a b c d : Bool} → a ≡ stateOk s → not a ≡ false → b ≡ listed offset → not b ≡ false → c ≡ readOnly offset → c ≡ false → d ≡ notWritten offset v → d ≡ false
-      → 0 ≡ numberOf (write offset v) s 0 0
-  unfolding numberOf
-  write-0 p e q f r g t h = later _ 2 _ (rw (← p) e) (later _ 3 _ (rw (← q) f) (later _ 4 _ (rw (← r) g) (later _ 5 _ (rw (← t) h) none)))
+-- the others of a write: c and d are the code's tests
+module _ (offset v : ℕ) where
+  abbrev writeTests : List Test
+  writeTests = test (readOnly offset) 4 ∷ test (notWritten offset v) 5 ∷ []
 
-module _ (s : State) (offset : ℕ) where
-  pub read-2 : {a : Bool} → a ≡ stateOk s → not a ≡ true → 2 ≡ numberOf (read offset) s 0 0
-  unfolding numberOf
-  read-2 p e = here _ 2 _ (rw (← p) e)
+  pub write-4 : {c : Bool} → c ≡ readOnly offset → c ≡ true → 4 ≡ firstOf writeTests
+  write-4 r g = here _ 4 _ (rw (← r) g)
 
-  pub read-3 : {a b : Bool} → a ≡ stateOk s → not a ≡ false → b ≡ listed offset → not b ≡ true → 3 ≡ numberOf (read offset) s 0 0
-  unfolding numberOf
-  read-3 p e q f = later _ 2 _ (rw (← p) e) (here _ 3 _ (rw (← q) f))
+  pub write-5 : {c d : Bool} → c ≡ readOnly offset → c ≡ false → d ≡ notWritten offset v → d ≡ true → 5 ≡ firstOf writeTests
+  write-5 r g t h = later _ 4 _ (rw (← r) g) (here _ 5 _ (rw (← t) h))
 
-  pub read-5 : {a b : Bool} → a ≡ stateOk s → not a ≡ false → b ≡ listed offset → not b ≡ false → offset ≡ 0x1A8 → 5 ≡ numberOf (read offset) s 0 0
-  unfolding numberOf
-  read-5 p e q f g = later _ 2 _ (rw (← p) e) (later _ 3 _ (rw (← q) f) (here _ 5 _ (eq-eqb offset 0x1A8 g)))
+  pub write-0 : {c d : Bool} → c ≡ readOnly offset → c ≡ false → d ≡ notWritten offset v → d ≡ false → 0 ≡ firstOf writeTests
+  write-0 r g t h = later _ 4 _ (rw (← r) g) (later _ 5 _ (rw (← t) h) none)
 
-  pub read-0 : {a b : Bool} → a ≡ stateOk s → not a ≡ false → b ≡ listed offset → not b ≡ false → (offset ≡ 0x1A8 → ⊥) → 0 ≡ numberOf (read offset) s 0 0
-  unfolding numberOf
-  read-0 p e q f g = later _ 2 _ (rw (← p) e) (later _ 3 _ (rw (← q) f) (later _ 5 _ (ne-eqb offset 0x1A8 g) none))
+-- and of a read
+pub read-5 : (offset : ℕ) → offset ≡ 0x1A8 → 5 ≡ firstOf (test (notRead offset) 5 ∷ [])
+read-5 offset g = here _ 5 _ (eq-eqb offset 0x1A8 g)
+
+pub read-0 : (offset : ℕ) → (offset ≡ 0x1A8 → ⊥) → 0 ≡ firstOf (test (notRead offset) 5 ∷ [])
+read-0 offset g = later _ 5 _ (ne-eqb offset 0x1A8 g) none
 
 -- ---- the calls
 

@@ -18,7 +18,8 @@ use Rattle.spu.specs.declared.Changed.{Changed}
 use Rattle.spu.specs.Tick.{Pair, tickOf}
 use Rattle.spu.specs.Transfer.{inwardOf, outwardOf}
 
--- a call with its fixed arguments; an outgoing buffer is lent with its contents
+-- a call with its fixed arguments; an outgoing buffer is lent with its contents. `view` is the block view, in document 01's word: a look at the
+-- sixteen bytes of one ADPCM block in the caller's own RAM
 pub data Call : Type 0 where
   write : ℕ → ℕ → Call
   read : ℕ → Call

@@ -1,5 +1,5 @@
 use borrow.Author.Needs.{needs}
-use Rattle.chip.proofs.Parts.{effect-repeat, effect-on, effect-off, effect-base, effect-transfer, effect-control, effect-none, voice-number, from-on, from-off}
+use Rattle.chip.proofs.Parts.{effect-repeat, effect-on, effect-off, effect-base, effect-transfer, effect-control, effect-none, voice-number, from-low}
 use Rattle.chip.proofs.effect.Statement.{statement}
 use Rattle.chip.proofs.effect.Tie as tie
 
@@ -13,7 +13,7 @@ returns : tie.Need-returns
 returns c = search effect-repeat
 
 sub-key-on : tie.Need-sub-key-on
-sub-key-on c = search from-on
+sub-key-on c = from-low 0x188 0x18A _ (c .if2 .taken)
 
 key-on-requires : tie.Need-key-on-requires
 key-on-requires c κs = search needs
@@ -22,7 +22,7 @@ returns-2 : tie.Need-returns-2
 returns-2 c = search effect-on
 
 sub-key-off : tie.Need-sub-key-off
-sub-key-off c = search from-off
+sub-key-off c = from-low 0x18C 0x18E _ (c .if3 .taken)
 
 key-off-requires : tie.Need-key-off-requires
 key-off-requires c κs = search needs

@@ -1,16 +1,16 @@
 use borrow.Author.Needs.{needs}
-use Rattle.chip.proofs.Parts.{listed-below, level-voice, repeat-voice, read-level, read-repeat, read-ends, read-more-ends, read-status, read-left, read-right, read-kept}
+use Rattle.chip.proofs.Parts.{listed-below, of-voice, read-level, read-repeat, read-ends, read-more-ends, read-status, read-left, read-right, read-kept}
 use Rattle.chip.proofs.read.Statement.{statement}
 use Rattle.chip.proofs.read.Tie as tie
 
 voice-at-requires : tie.Need-voice-at-requires
-voice-at-requires c κs = search level-voice
+voice-at-requires c κs = of-voice 0xC _ (c .if1 .taken)
 
 returns : tie.Need-returns
 returns c = search read-level
 
 voice-at-requires-2 : tie.Need-voice-at-requires-2
-voice-at-requires-2 c κs = search repeat-voice
+voice-at-requires-2 c κs = of-voice 0xE _ (c .if2 .taken)
 
 returns-2 : tie.Need-returns-2
 returns-2 c = search read-repeat
