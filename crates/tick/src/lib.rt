@@ -84,7 +84,7 @@ fn mix(regs: &[u16; 256], total: i32, held: i16, cd: i32, main: usize) -> i16
     fixed::saturate(fixed::product(sum as i32, volume))
 }
 
-fn pair(regs: &[u16; 256], held: Held, sums: Sums, left: i16, right: i16) -> Pair
+fn mixed(regs: &[u16; 256], held: Held, sums: Sums, left: i16, right: i16) -> Pair
     ensures { λ r. ⌜ r ≡ pairOf (now (regs .entry)) held sums left right ⌝ }
 {
     Pair {
@@ -277,7 +277,7 @@ pub fn run(s: State, ram: &mut [u8], marks: &mut [u8], left: i16, right: i16, w:
         marks,
         captured,
     );
-    let pair = pair(&s.regs, s.reverb.held, sums, left, right);
+    let pair = mixed(&s.regs, s.reverb.held, sums, left, right);
     let voices = v.voices;
     let reverb = t.reverb;
     let watch = t.watch;
