@@ -1,7 +1,7 @@
 -- "Voices 0 to 23", one after the other, and what they give to the mix, the capture and the reverb. Assumes nothing.
 use mathlib.Core.Bool.{Bool, cond, false, _&&_}
 use mathlib.Core.List.{List, []}
-use Prim.Native.Nat.{ℕ, _<_, _*_}
+use Prim.Native.Nat.{ℕ, zero, suc, _<_, _*_}
 use lib.Dec.{eqb, ltb}
 use lib.ListN.{getD, set}
 use lib.IntN.{ℤ, pos, _+ℤ_}
@@ -66,6 +66,11 @@ addedOf regs n a s =
 
 unfoldable pub noSums : Sums
 noSums = record { dry = silent; wet = silent; below = pos 0; captured = record { first = pos 0; third = pos 0 } }
+
+-- the sums of the first n voices, of all amplitudes
+unfoldable pub mixedOf : List ℕ → List ℤ → ℕ → Sums
+mixedOf regs amplitudes zero = noSums
+mixedOf regs amplitudes (suc n) = addedOf regs n (getD amplitudes n (pos 0)) (mixedOf regs amplitudes n)
 
 -- the sums of n voices: each side is at most 8000h
 pub record SidesIn (n : ℕ) (s : Sides) : Type 0 where

@@ -5,11 +5,14 @@ ghost use Rattle.fixed.specs.Range.{In};
 ghost use Rattle.gauss.specs.Gauss.{table as factors};
 ghost use Rattle.soundram.specs.Address.{Lent};
 ghost use Rattle.soundram.specs.Program.{Does, memOf, repeat};
+ghost use Rattle.voice.specs.Voice.{tickOf};
 ghost use Rattle.voice.specs.Range.{InRange};
-ghost use Rattle.voices.specs.Voices.{settingsOf, sideOf, sidesOf, joinedOf, gatedOf, capturedOf, addedOf, noSums, SidesIn, SumsIn, turnOf, voiceAt, AllIn};
+ghost use Rattle.voices.specs.Voices.{settingsOf, sideOf, sidesOf, joinedOf, gatedOf, capturedOf, addedOf, noSums, SidesIn, SumsIn, mixedOf, voiceAt, AllIn};
+use soundram::Reader;
 use soundram::Watch;
 use voice::Settings;
 use voice::Voice;
+use voice::VoiceTick;
 
 // A sum, or a share of one, for each side.
 pub struct Sides {
@@ -32,10 +35,10 @@ pub struct Sums {
     pub captured: Captured,
 }
 
-// One voice's turn.
-pub struct Turn {
-    pub voice: Voice,
-    pub sums: Sums,
+// The voices after a tick, and the amplitude of each.
+pub struct Played {
+    pub voices: [Voice; 24],
+    pub amplitudes: [i16; 24],
     pub watch: Watch,
 }
 
@@ -131,7 +134,23 @@ fn add(regs: &[u16; 256], n: usize, a: i16, s: Sums) -> Sums
     }
 }
 
-// One voice's turn, of the noise's level.
+// The sums of all voices.
+fn mix(regs: &[u16; 256], amplitudes: [i16; 24]) -> Sums
+    ensures { λ r. ⌜ (r ≡ mixedOf (now (regs .entry)) amplitudes 24) × SumsIn 24 r ⌝ }
+{
+    let mut sums = Sums {
+        dry: Sides { left: 0, right: 0 },
+        wet: Sides { left: 0, right: 0 },
+        below: 0,
+        captured: Captured { first: 0, third: 0 },
+    };
+    for n in 0..24usize {
+        sums = add(regs, n, amplitudes[n], sums);
+    }
+    sums
+}
+
+// One voice's tick, of the noise's level.
 fn tick_one(
     table: &[i16; 512],
     regs: &[u16; 256],
@@ -139,34 +158,30 @@ fn tick_one(
     size: u32,
     level: u16,
     v: Voice,
-    s: Sums,
+    below: i16,
     ram: &[u8],
     marks: &[u8],
     w: Watch,
-) -> Turn
-    requires { ⌜ (now table ≡ factors) × (n < 24) × Lent size (now ram) (now marks) × InRange size v × SumsIn n s ⌝ }
-    ensures { λ r. ⌜ Does (turnOf size (now (regs .entry)) level n v s) (memOf (now (ram .entry)) (now (marks .entry)) w) (record { voice = r .voice; sums = r .sums }) (memOf (now (ram .entry)) (now (marks .entry)) (r .watch)) × SumsIn (n + 1) (r .sums) ⌝ }
+) -> VoiceTick
+    requires { ⌜ (now table ≡ factors) × (n < 24) × Lent size (now ram) (now marks) × InRange size v ⌝ }
+    ensures { λ r. ⌜ Does (tickOf (Reader.Voice n) size (settingsOf (now (regs .entry)) n) below level v) (memOf (now (ram .entry)) (now (marks .entry)) w) (record { voice = r .voice; amplitude = r .amplitude }) (memOf (now (ram .entry)) (now (marks .entry)) (r .watch)) ⌝ }
 {
-    let t = voice::tick(
+    voice::tick(
         table,
         v,
         n as u8,
         size,
         settings(regs, n),
-        s.below,
+        below,
         level,
         ram,
         marks,
         w,
-    );
-    let sums = add(regs, n, t.amplitude, s);
-    let voice = t.voice;
-    let watch = t.watch;
-    Turn { voice, sums, watch }
+    )
 }
 
-// All voices in order.
-fn in_order(
+// All voices in order. Those that stay in their block, most of them, change in place.
+fn play(
     table: &[i16; 512],
     regs: &[u16; 256],
     size: u32,
@@ -175,31 +190,71 @@ fn in_order(
     ram: &[u8],
     marks: &[u8],
     w: Watch,
-) -> Voiced
+) -> Played
     requires { ⌜ (now table ≡ factors) × Lent size (now ram) (now marks) × AllIn size v ⌝ }
-    ensures { λ r. ⌜ Does (repeat (voiceAt size (now (regs .entry)) level) 24 (record { voices = v; sums = noSums })) (memOf (now (ram .entry)) (now (marks .entry)) w) (record { voices = r .voices; sums = r .sums }) (memOf (now (ram .entry)) (now (marks .entry)) (r .watch)) × SumsIn 24 (r .sums) ⌝ }
+    ensures { λ r. ⌜ Does (repeat (voiceAt size (now (regs .entry)) level) 24 (record { voices = v; sums = noSums })) (memOf (now (ram .entry)) (now (marks .entry)) w) (record { voices = r .voices; sums = mixedOf (now (regs .entry)) (r .amplitudes) 24 }) (memOf (now (ram .entry)) (now (marks .entry)) (r .watch)) ⌝ }
 {
     let mut voices = v;
-    let mut sums = Sums {
-        dry: Sides { left: 0, right: 0 },
-        wet: Sides { left: 0, right: 0 },
-        below: 0,
-        captured: Captured { first: 0, third: 0 },
-    };
+    let mut amplitudes = [0i16; 24];
+    let mut below = 0i16;
     let mut watch = w;
-    for n in 0..24usize {
+    let mut n = 0usize;
+    while n < 24 {
         let x = voices[n];
-        let t = tick_one(table, regs, n, size, level, x, sums, ram, marks, watch);
-        let next = t.voice;
-        let sum = t.sums;
-        let seen = t.watch;
-        voices[n] = next;
-        sums = sum;
-        watch = seen;
+        let e = x.envelope;
+        let phase = e.phase;
+        if voice::is_idle(phase) {
+            below = 0;
+            amplitudes[n] = 0;
+            n = n + 1;
+            continue;
+        }
+        if !x.playing.loaded {
+            let t = tick_one(table, regs, n, size, level, x, below, ram, marks, watch);
+            let next = t.voice;
+            let seen = t.watch;
+            voices[n] = next;
+            watch = seen;
+            below = t.amplitude;
+            amplitudes[n] = below;
+            n = n + 1;
+            continue;
+        }
+        let s = settings(regs, n);
+        let g = voice::glide(table, x, s, below, level);
+        if 27 < g.target {
+            let t = tick_one(table, regs, n, size, level, x, below, ram, marks, watch);
+            let next = t.voice;
+            let seen = t.watch;
+            voices[n] = next;
+            watch = seen;
+            below = t.amplitude;
+            amplitudes[n] = below;
+            n = n + 1;
+            continue;
+        }
+        let counter = g.counter;
+        let index = g.target as u8;
+        let mut y = x;
+        y.position.counter = counter;
+        y.position.index = index;
+        below = g.amplitude;
+        amplitudes[n] = below;
+        if envelope::waits(e) {
+            let wait = e.wait - 1;
+            y.envelope.wait = wait;
+            voices[n] = y;
+            n = n + 1;
+            continue;
+        }
+        let stepped = envelope::tick(e, s.low, s.high);
+        y.envelope = stepped;
+        voices[n] = y;
+        n = n + 1;
     }
-    Voiced {
+    Played {
         voices,
-        sums,
+        amplitudes,
         watch,
     }
 }
@@ -218,5 +273,14 @@ pub fn tick(
     ensures { λ r. ⌜ Does (repeat (voiceAt size (now (regs .entry)) level) 24 (record { voices = v; sums = noSums })) (memOf (now (ram .entry)) (now (marks .entry)) w) (record { voices = r .voices; sums = r .sums }) (memOf (now (ram .entry)) (now (marks .entry)) (r .watch)) × SumsIn 24 (r .sums) ⌝ }
 {
     let table = gauss::table();
-    in_order(&table, regs, size, level, v, ram, marks, w)
+    let p = play(&table, regs, size, level, v, ram, marks, w);
+    let amplitudes = p.amplitudes;
+    let sums = mix(regs, amplitudes);
+    let voices = p.voices;
+    let watch = p.watch;
+    Voiced {
+        voices,
+        sums,
+        watch,
+    }
 }
