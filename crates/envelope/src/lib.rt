@@ -206,12 +206,11 @@ fn moved(phase: Phase, level: u16, low: u16, high: u16) -> Envelope
     enter(phase_after(phase, next, low), next, low, high)
 }
 
-// Whether the next tick only waits.
-pub fn waits(e: Envelope) -> bool
-    ensures { λ r. ⌜ r ≡ (active (e .phase) && ltb 1 (e .wait)) ⌝ }
+// Whether the next tick of an envelope only waits.
+pub fn waits(phase: Phase, wait: u32) -> bool
+    ensures { λ r. ⌜ r ≡ (active phase && ltb 1 wait) ⌝ }
 {
-    let phase = e.phase;
-    is_active(phase) & (1 < e.wait)
+    is_active(phase) & (1 < wait)
 }
 
 // One tick: most only wait, and look at no rate.

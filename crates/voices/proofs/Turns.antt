@@ -65,14 +65,6 @@ mixed-more : (regs : List ℕ) (hs : List ℤ) (n : ℕ) (a : ℤ) → length hs
 unfolding mixedOf
 mixed-more regs hs n a l h = rw (add-one n, getD-set-same hs n a (pos 0) (omega arith), mixed-kept regs hs n a n (omega arith))
 
--- one more, of the amplitudes as they stand: a is the amplitude as the call has it
-pub mixed-next : (regs : List ℕ) (hs : List ℤ) (n : ℕ) {a : ℤ} {s t : Sums} → s ≡ mixedOf regs hs n → a ≡ getD hs n (pos 0) → t ≡ addedOf regs n a s → t ≡ mixedOf regs hs (n + 1)
-unfolding mixedOf
-mixed-next regs hs n e f g = rw (add-one n, g, f, e)
-
-pub mixed-end : (regs : List ℕ) (hs : List ℤ) (n k : ℕ) {s : Sums} → s ≡ mixedOf regs hs n → n ≤ k → k ≤ n → s ≡ mixedOf regs hs k
-mixed-end regs hs n k {s} p a b = let e : n ≡ k = omega arith in subst (λ (j : ℕ). s ≡ mixedOf regs hs j) e p
-
 -- n voices have played: vs are the voices, hs their amplitudes, b is the last
 pub record Play (size : ℕ) (regs : List ℕ) (level : ℕ) (vs₀ : List Voice) (m₀ : Mem) (n : ℕ) (vs : List Voice) (hs : List ℤ) (b : ℤ) (m : Mem) : Type 0 where
   pub few : n ≤ 24

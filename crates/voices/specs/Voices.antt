@@ -1,10 +1,12 @@
 -- "Voices 0 to 23", one after the other, and what they give to the mix, the capture and the reverb. Assumes nothing.
+use mathlib.Core.Path.{_≡_}
 use mathlib.Core.Bool.{Bool, cond, false, _&&_}
 use mathlib.Core.List.{List, []}
 use Prim.Native.Nat.{ℕ, zero, suc, _<_, _*_}
 use lib.Dec.{eqb, ltb}
 use lib.ListN.{getD, set}
 use lib.IntN.{ℤ, pos, _+ℤ_}
+use Rattle.fixed.specs.Bits.{bit}
 use Rattle.fixed.specs.Range.{In}
 use Rattle.fixed.specs.Arithmetic.{productOf, volumeOf}
 use Rattle.envelope.specs.declared.Phase.the-variants.{Idle}
@@ -30,6 +32,10 @@ settingsOf regs n =
       modulated = flagOf regs 0x190 n && ltb 0 n;
       noise = flagOf regs 0x194 n;
     }
+
+-- PMON as one number, without voice 0
+pub record Modulated (regs : List ℕ) (flags : ℕ) : Type 0 where
+  pub each : (n : ℕ) → n < 24 → bit n flags ≡ (flagOf regs 0x190 n && ltb 0 n)
 
 -- ---- sides and sums
 

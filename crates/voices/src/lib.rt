@@ -1,13 +1,14 @@
 // All 24 voices in a tick.
 ghost use mathlib.Core.Path.{_≡_};
-ghost use Prim.Native.Nat.{_+_, _<_};
+ghost use Prim.Native.Nat.{_<_};
 ghost use Rattle.fixed.specs.Range.{In};
 ghost use Rattle.gauss.specs.Gauss.{table as factors};
+ghost use Rattle.registers.specs.Map.{Flags};
 ghost use Rattle.soundram.specs.Address.{Lent};
 ghost use Rattle.soundram.specs.Program.{Does, memOf, repeat};
 ghost use Rattle.voice.specs.Voice.{tickOf};
 ghost use Rattle.voice.specs.Range.{InRange};
-ghost use Rattle.voices.specs.Voices.{settingsOf, sideOf, sidesOf, joinedOf, gatedOf, capturedOf, addedOf, noSums, SidesIn, SumsIn, mixedOf, voiceAt, AllIn};
+ghost use Rattle.voices.specs.Voices.{settingsOf, Modulated, sideOf, sidesOf, joinedOf, gatedOf, noSums, SidesIn, SumsIn, mixedOf, voiceAt, AllIn};
 use soundram::Reader;
 use soundram::Watch;
 use voice::Settings;
@@ -62,6 +63,27 @@ fn settings(regs: &[u16; 256], n: usize) -> Settings
     }
 }
 
+// PMON as one number, without voice 0, which has none below it.
+fn modulation(regs: &[u16; 256]) -> u32
+    ensures { λ r. ⌜ Modulated (now (regs .entry)) r ⌝ }
+{
+    registers::flags(regs, 0x190) / 2 * 2
+}
+
+// The settings of voice n, where modulation and noise of all voices are at hand.
+fn settings_by(regs: &[u16; 256], pmon: u32, non: u32, n: usize) -> Settings
+    requires { ⌜ (n < 24) × Modulated (now regs) pmon × Flags (now regs) 0x194 non ⌝ }
+    ensures { λ r. ⌜ r ≡ settingsOf (now (regs .entry)) n ⌝ }
+{
+    Settings {
+        pitch: registers::of_voice(regs, n, 4),
+        low: registers::of_voice(regs, n, 8),
+        high: registers::of_voice(regs, n, 0xA),
+        modulated: registers::has(pmon, n),
+        noise: registers::has(non, n),
+    }
+}
+
 fn side(amplitude: i16, volume: u16) -> i32
     ensures { λ r. ⌜ (r ≡ sideOf amplitude volume) × (In 0x8000 0x8000 r) ⌝ }
 {
@@ -98,56 +120,28 @@ fn gate(on: bool, s: Sides) -> Sides
     Sides { left: 0, right: 0 }
 }
 
-// What is captured, with voice n.
-fn capture(n: usize, a: i16, c: Captured) -> Captured
-    ensures { λ r. ⌜ r ≡ capturedOf n a c ⌝ }
-{
-    if n == 1 {
-        return Captured {
-            first: a,
-            third: c.third,
-        };
-    }
-    if n == 3 {
-        return Captured {
-            first: c.first,
-            third: a,
-        };
-    }
-    c
-}
-
-// The sums with voice n.
-fn add(regs: &[u16; 256], n: usize, a: i16, s: Sums) -> Sums
-    requires { ⌜ (n < 24) × SumsIn n s ⌝ }
-    ensures { λ r. ⌜ (r ≡ addedOf (now (regs .entry)) n a s) × SumsIn (n + 1) r ⌝ }
-{
-    let here = both_sides(regs, n, a);
-    let dry = join(s.dry, here);
-    let wet = join(s.wet, gate(registers::flag(regs, 0x198, n), here));
-    let captured = capture(n, a, s.captured);
-    Sums {
-        dry,
-        wet,
-        below: a,
-        captured,
-    }
-}
-
-// The sums of all voices.
+// The sums of all voices. Those of voices 1 and 3 are captured.
 fn mix(regs: &[u16; 256], amplitudes: [i16; 24]) -> Sums
     ensures { λ r. ⌜ (r ≡ mixedOf (now (regs .entry)) amplitudes 24) × SumsIn 24 r ⌝ }
 {
-    let mut sums = Sums {
-        dry: Sides { left: 0, right: 0 },
-        wet: Sides { left: 0, right: 0 },
-        below: 0,
-        captured: Captured { first: 0, third: 0 },
-    };
+    let eon = registers::flags(regs, 0x198);
+    let mut dry = Sides { left: 0, right: 0 };
+    let mut wet = Sides { left: 0, right: 0 };
     for n in 0..24usize {
-        sums = add(regs, n, amplitudes[n], sums);
+        let here = both_sides(regs, n, amplitudes[n]);
+        dry = join(dry, here);
+        wet = join(wet, gate(registers::has(eon, n), here));
     }
-    sums
+    let captured = Captured {
+        first: amplitudes[1],
+        third: amplitudes[3],
+    };
+    Sums {
+        dry,
+        wet,
+        below: amplitudes[23],
+        captured,
+    }
 }
 
 // One voice's tick, of the noise's level.
@@ -194,6 +188,8 @@ fn play(
     requires { ⌜ (now table ≡ factors) × Lent size (now ram) (now marks) × AllIn size v ⌝ }
     ensures { λ r. ⌜ Does (repeat (voiceAt size (now (regs .entry)) level) 24 (record { voices = v; sums = noSums })) (memOf (now (ram .entry)) (now (marks .entry)) w) (record { voices = r .voices; sums = mixedOf (now (regs .entry)) (r .amplitudes) 24 }) (memOf (now (ram .entry)) (now (marks .entry)) (r .watch)) ⌝ }
 {
+    let pmon = modulation(regs);
+    let non = registers::flags(regs, 0x194);
     let mut voices = v;
     let mut amplitudes = [0i16; 24];
     let mut below = 0i16;
@@ -220,7 +216,7 @@ fn play(
             n = n + 1;
             continue;
         }
-        let s = settings(regs, n);
+        let s = settings_by(regs, pmon, non, n);
         let g = voice::glide(table, x, s, below, level);
         if 27 < g.target {
             let t = tick_one(table, regs, n, size, level, x, below, ram, marks, watch);
@@ -240,9 +236,10 @@ fn play(
         y.position.index = index;
         below = g.amplitude;
         amplitudes[n] = below;
-        if envelope::waits(e) {
-            let wait = e.wait - 1;
-            y.envelope.wait = wait;
+        let wait = x.envelope.wait;
+        if envelope::waits(phase, wait) {
+            let left = wait - 1;
+            y.envelope.wait = left;
             voices[n] = y;
             n = n + 1;
             continue;

@@ -6,7 +6,7 @@ is-active-requires : tie.Need-is-active-requires
 is-active-requires c κs = search needs
 
 returns : tie.Need-returns
-returns c = rw (c .before .is-active .ensures)
+returns c = rw (c .is-active .ensures)
 
 pub waits-spec : {M : Type 1} → statement M
 waits-spec = tie.close (tie.spec is-active-requires returns)
