@@ -15,13 +15,20 @@ use Rattle.fixed.specs.Bits.{bit, field}
 use Rattle.fixed.specs.Range.{In}
 use Rattle.fixed.proofs.Number.{add-in}
 use Rattle.registers.specs.Map.{ofVoice, flagOf, Flags}
+use Rattle.voice.specs.declared.Settings.{Settings}
 use Rattle.voices.specs.declared.Sides.{Sides}
-use Rattle.voices.specs.Voices.{settingsOf, Modulated, sideOf, sidesOf, silent, joinedOf, gatedOf, capturedOf, addedOf, SidesIn, mixedOf}
+use Rattle.voices.specs.Voices.{flaggedOf, settingsOf, Modulated, sideOf, sidesOf, silent, joinedOf, gatedOf, capturedOf, addedOf, SidesIn, mixedOf}
 
-pub settings-as : (regs : List ℕ) (n : ℕ) {p l h : ℕ} {m o : Bool} → p ≡ ofVoice regs n 4 → l ≡ ofVoice regs n 8 → h ≡ ofVoice regs n 0xA → m ≡ flagOf regs 0x190 n
-    → o ≡ flagOf regs 0x194 n → record { pitch = p; low = l; high = h; modulated = m && ltb 0 n; noise = o } ≡ settingsOf regs n
-unfolding settingsOf
-settings-as regs n a b c d e = rw (a, b, c, d, e)
+pub flagged-as : (regs : List ℕ) (n : ℕ) (m o : Bool) {p l h : ℕ} → p ≡ ofVoice regs n 4 → l ≡ ofVoice regs n 8 → h ≡ ofVoice regs n 0xA
+    → record { pitch = p; low = l; high = h; modulated = m; noise = o } ≡ flaggedOf regs n m o
+unfolding flaggedOf
+flagged-as regs n m o a b c = rw (a, b, c)
+
+-- m and o are the flags as the calls have them
+pub settings-as : (regs : List ℕ) (n : ℕ) (m : Bool) {o : Bool} {s : Settings} → m ≡ flagOf regs 0x190 n → o ≡ flagOf regs 0x194 n
+    → s ≡ flaggedOf regs n (m && ltb 0 n) o → s ≡ settingsOf regs n
+unfolding settingsOf flaggedOf
+settings-as regs n m p q e = rw (e, p, q)
 
 -- the lowest bit cleared
 
@@ -43,6 +50,7 @@ clear-low x n = by (decLt 0 n)
     on : (b : Bool) → (b && true) ≡ b
     on true = refl
     on false = refl
+
     by : Dec (0 < n) → bit n (x / 2 * 2) ≡ (bit n x && ltb 0 n)
     by (yes h) =
         let p : n ≡ 1 + (n - 1) = omega arith in
@@ -52,11 +60,10 @@ clear-low x n = by (decLt 0 n)
 pub modulated-as : (regs : List ℕ) {x : ℕ} → Flags regs 0x190 x → Modulated regs (x / 2 * 2)
 modulated-as regs {x} f = record { each = λ n h. clear-low x n ∙ ap (λ (b : Bool). b && ltb 0 n) (f .each n h) }
 
--- m and o are the flags as the calls have them
-pub settings-by-as : (regs : List ℕ) (n : ℕ) {pmon non p l h : ℕ} {m o : Bool} → n < 24 → Modulated regs pmon → Flags regs 0x194 non → p ≡ ofVoice regs n 4 → l ≡ ofVoice regs n 8
-    → h ≡ ofVoice regs n 0xA → m ≡ bit n pmon → o ≡ bit n non → record { pitch = p; low = l; high = h; modulated = m; noise = o } ≡ settingsOf regs n
-unfolding settingsOf
-settings-by-as regs n k s t a b c d e = rw (a, b, c, d, e, s .each n k, t .each n k)
+pub settings-by-as : (regs : List ℕ) (n : ℕ) {pmon non : ℕ} {m o : Bool} {s : Settings} → n < 24 → Modulated regs pmon → Flags regs 0x194 non
+    → m ≡ bit n pmon → o ≡ bit n non → s ≡ flaggedOf regs n m o → s ≡ settingsOf regs n
+unfolding settingsOf flaggedOf
+settings-by-as regs n k f g p q e = rw (e, p, q, f .each n k, g .each n k)
 
 -- x and y are the amplitude as the calls have it, l′ and r′ the sides as the answer holds them
 pub sides-as : (regs : List ℕ) (n : ℕ) (a : ℤ) {l r l′ r′ x y : ℤ} {p q : ℕ} → p ≡ ofVoice regs n 0 → q ≡ ofVoice regs n 2 → x ≡ a → y ≡ a

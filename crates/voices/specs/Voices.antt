@@ -33,6 +33,11 @@ settingsOf regs n =
       noise = flagOf regs 0x194 n;
     }
 
+-- the same, of flags that are at hand
+unfoldable pub flaggedOf : List ℕ → ℕ → Bool → Bool → Settings
+flaggedOf regs n modulated noise =
+    record { pitch = ofVoice regs n 4; low = ofVoice regs n 8; high = ofVoice regs n 0xA; modulated = modulated; noise = noise }
+
 -- PMON as one number, without voice 0
 pub record Modulated (regs : List ℕ) (flags : ℕ) : Type 0 where
   pub each : (n : ℕ) → n < 24 → bit n flags ≡ (flagOf regs 0x190 n && ltb 0 n)

@@ -8,7 +8,7 @@ ghost use Rattle.soundram.specs.Address.{Lent};
 ghost use Rattle.soundram.specs.Program.{Does, memOf, repeat};
 ghost use Rattle.voice.specs.Voice.{tickOf};
 ghost use Rattle.voice.specs.Range.{InRange};
-ghost use Rattle.voices.specs.Voices.{settingsOf, Modulated, sideOf, sidesOf, joinedOf, gatedOf, noSums, SidesIn, SumsIn, mixedOf, voiceAt, AllIn};
+ghost use Rattle.voices.specs.Voices.{flaggedOf, settingsOf, Modulated, sideOf, sidesOf, joinedOf, gatedOf, noSums, SidesIn, SumsIn, mixedOf, voiceAt, AllIn};
 use soundram::Reader;
 use soundram::Watch;
 use voice::Settings;
@@ -50,17 +50,26 @@ pub struct Voiced {
     pub watch: Watch,
 }
 
-fn settings(regs: &[u16; 256], n: usize) -> Settings
+// The settings of voice n with these flags.
+fn with_flags(regs: &[u16; 256], n: usize, modulated: bool, noise: bool) -> Settings
     requires { ⌜ n < 24 ⌝ }
-    ensures { λ r. ⌜ r ≡ settingsOf (now (regs .entry)) n ⌝ }
+    ensures { λ r. ⌜ r ≡ flaggedOf (now (regs .entry)) n modulated noise ⌝ }
 {
     Settings {
         pitch: registers::of_voice(regs, n, 4),
         low: registers::of_voice(regs, n, 8),
         high: registers::of_voice(regs, n, 0xA),
-        modulated: registers::flag(regs, 0x190, n) & (0 < n),
-        noise: registers::flag(regs, 0x194, n),
+        modulated,
+        noise,
     }
+}
+
+fn settings(regs: &[u16; 256], n: usize) -> Settings
+    requires { ⌜ n < 24 ⌝ }
+    ensures { λ r. ⌜ r ≡ settingsOf (now (regs .entry)) n ⌝ }
+{
+    let modulated = registers::flag(regs, 0x190, n) & (0 < n);
+    with_flags(regs, n, modulated, registers::flag(regs, 0x194, n))
 }
 
 // PMON as one number, without voice 0, which has none below it.
@@ -75,13 +84,7 @@ fn settings_by(regs: &[u16; 256], pmon: u32, non: u32, n: usize) -> Settings
     requires { ⌜ (n < 24) × Modulated (now regs) pmon × Flags (now regs) 0x194 non ⌝ }
     ensures { λ r. ⌜ r ≡ settingsOf (now (regs .entry)) n ⌝ }
 {
-    Settings {
-        pitch: registers::of_voice(regs, n, 4),
-        low: registers::of_voice(regs, n, 8),
-        high: registers::of_voice(regs, n, 0xA),
-        modulated: registers::has(pmon, n),
-        noise: registers::has(non, n),
-    }
+    with_flags(regs, n, registers::has(pmon, n), registers::has(non, n))
 }
 
 fn side(amplitude: i16, volume: u16) -> i32
