@@ -1,20 +1,21 @@
 -- Laws of the ADPCM definitions. Assumes nothing.
-use mathlib.Core.Path.{_≡_, refl, sym, ap, ap₂, _∙_}
+use mathlib.Core.Path.{_≡_, refl, sym, ap, ap₂, subst, _∙_}
 use mathlib.Core.Bool.{Bool}
 use mathlib.Core.List.{List, [], _∷_, _++_, append-assoc, append-nil}
 use Prim.Native.Nat.{ℕ, zero, suc, _+_, _-_, _*_, _/_, _%_, _^_, _≤_, _<_}
 use native.Mathlib.Decide.{decLe}
 use native.Mathlib.Numerals.{add-one}
 use native.Mathlib.Omega.{arith}
-use lib.ListN.{length, take, drop, getD, set, length-drop, drop-of-length-le}
+use lib.ListN.{length, take, drop, getD, set, length-drop, length-set, drop-of-length-le}
 use lib.Seq.{take-suc-set, take-all, drop-cons, getD-drop}
-use lib.IntN.{ℤ, pos, _*ℤ_}
+use lib.IntN.{ℤ, pos, _+ℤ_, _*ℤ_}
 use lib.Signed.{shrZ}
 use borrow.Author.Tests.{lt-ltb, le-ltb}
 use Rattle.fixed.specs.Bits.{field}
 use Rattle.fixed.specs.Signed.{signed}
+use Rattle.fixed.specs.Arithmetic.{floorDiv}
 use Rattle.fixed.proofs.Table.{below, below-at, eqZ, eqZ→eq}
-use Rattle.adpcm.specs.Adpcm.{actsAs, headerOf, sampleOf, samplesOf, nibblesOf, blockOf}
+use Rattle.adpcm.specs.Adpcm.{actsAs, headerOf, k0Of, k1Of, predictedOf, sampleOf, samplesOf, nibblesOf, blockOf}
 use Rattle.adpcm.specs.declared.Header.{Header}
 
 -- ---- the header
@@ -55,6 +56,12 @@ unfolding signed
 nibble-placed t s p q =
     eqZ→eq _ _ (below-at 13 (placed t) (below-at 16 (λ t. below 13 (placed t)) tt t p) s (omega arith))
 
+-- ---- the prediction, by the filter's factors as the code has them
+pub predicted-by : (filter : ℕ) (old older : ℤ) {f0 f1 : ℤ} → f0 ≡ k0Of filter → f1 ≡ k1Of filter
+    → floorDiv (old *ℤ f0 +ℤ older *ℤ f1 +ℤ pos 32) 64 ≡ predictedOf filter old older
+unfolding predictedOf
+predicted-by filter old older e g = rw (e, g)
+
 -- ---- the nibbles of a row of bytes
 
 pub nibbles-length : (bs : List ℕ) → length (nibblesOf bs) ≡ length bs * 2
@@ -87,12 +94,12 @@ at (b ∷ bs) (suc zero) (suc j) k h e = absurd (none e)
     none e = omega arith
 at (b ∷ bs) (suc (suc i)) (suc j) k h e = at bs i j k h (omega arith)
 
--- those of a block, from its third byte on
-pub nibble-low : (bytes : List ℕ) (i : ℕ) → i % 2 ≡ 0 → getD bytes (2 + i / 2) 0 % 16 ≡ getD (nibblesOf (drop 2 bytes)) i 0
-nibble-low bytes i e = sym (at (drop 2 bytes) i (i / 2) 0 (omega arith) (omega arith) ∙ ap (λ (b : ℕ). b % 16) (getD-drop 2 bytes (i / 2) 0))
+-- those of byte i past the first two of a block
+nibble-low : (bytes : List ℕ) (i : ℕ) → getD bytes (2 + i) 0 % 16 ≡ getD (nibblesOf (drop 2 bytes)) (i * 2) 0
+nibble-low bytes i = sym (at (drop 2 bytes) (i * 2) i 0 (omega arith) (omega arith) ∙ ap (λ (b : ℕ). b % 16) (getD-drop 2 bytes i 0))
 
-pub nibble-high : (bytes : List ℕ) (i : ℕ) → (i % 2 ≡ 0 → ⊥) → getD bytes (2 + i / 2) 0 / 16 % 16 ≡ getD (nibblesOf (drop 2 bytes)) i 0
-nibble-high bytes i e = sym (at (drop 2 bytes) i (i / 2) 1 (omega arith) (omega arith) ∙ ap (λ (b : ℕ). b / 16 % 16) (getD-drop 2 bytes (i / 2) 0))
+nibble-high : (bytes : List ℕ) (i : ℕ) → getD bytes (2 + i) 0 / 16 % 16 ≡ getD (nibblesOf (drop 2 bytes)) (i * 2 + 1) 0
+nibble-high bytes i = sym (at (drop 2 bytes) (i * 2 + 1) i 1 (omega arith) (omega arith) ∙ ap (λ (b : ℕ). b / 16 % 16) (getD-drop 2 bytes i 0))
 
 -- ---- a block's samples, one by one
 
@@ -108,20 +115,30 @@ module _ {h : Header} {bytes : List ℕ} where
   unfolding blockOf
   part-none out old older e = record { rest = rw e }
 
-  pub part-more : {all out : List ℤ} {old older : ℤ} {i : ℕ} (x : ℤ) (t : ℕ) → Part h bytes all out old older i → length bytes ≡ 16 → length out ≡ 28 → i < 28
+  part-more : {all out : List ℤ} {old older : ℤ} {i : ℕ} (x : ℤ) (t : ℕ) → Part h bytes all out old older i → length bytes ≡ 16 → length out ≡ 28 → i < 28
       → t ≡ getD (nibblesOf (drop 2 bytes)) i 0 → x ≡ sampleOf t h old older → Part h bytes all (set out i x) x old (i + 1)
   unfolding samplesOf
   part-more {out = out} {i = i} x t p b o l e f =
       let n = count bytes b in
       record { rest = p .rest ∙ rw (drop-cons (nibblesOf (drop 2 bytes)) i 0 (omega arith), ← e, ← f, add-one i, take-suc-set out i x (omega arith), append-assoc) }
 
+  -- both samples of byte i past the first two
+  pub part-byte : {all out : List ℤ} {old older : ℤ} {i : ℕ} (x y : ℤ) → Part h bytes all out old older (i * 2) → length bytes ≡ 16 → length out ≡ 28 → i < 14
+      → x ≡ sampleOf (getD bytes (2 + i) 0 % 16) h old older → y ≡ sampleOf (getD bytes (2 + i) 0 / 16 % 16) h x old
+      → Part h bytes all (set (set out (i * 2) x) (i * 2 + 1) y) y x ((i + 1) * 2)
+  part-byte {all} {out} {old} {i = i} x y p b o l e f =
+      let k : i * 2 + 1 + 1 ≡ (i + 1) * 2 = omega arith in
+      let q = part-more x _ p b o (omega arith) (nibble-low bytes i) e in
+      let r = part-more y _ q b (length-set out (i * 2) x ∙ o) (omega arith) (nibble-high bytes i) f in
+      subst (λ (j : ℕ). Part h bytes all (set (set out (i * 2) x) (i * 2 + 1) y) y x j) k r
+
   -- o and p are the two samples before, as the loop has them
-  pub part-all : {out : List ℤ} {o p old older a b : ℤ} {i : ℕ} → Part h bytes (blockOf bytes o p) out a b i → length bytes ≡ 16 → length out ≡ 28
-      → 28 ≤ i → o ≡ old → p ≡ older → out ≡ blockOf bytes old older
+  pub part-all : {out : List ℤ} {o p old older a b : ℤ} {i : ℕ} → Part h bytes (blockOf bytes o p) out a b (i * 2) → length bytes ≡ 16 → length out ≡ 28
+      → 14 ≤ i → o ≡ old → p ≡ older → out ≡ blockOf bytes old older
   unfolding samplesOf
   part-all {out = out} {i = i} r b o l e f =
       let n = count bytes b in
       sym
       (ap₂ (blockOf bytes) (sym e) (sym f)
       ∙ r .rest
-      ∙ rw (take-all i out (omega arith), drop-of-length-le (nibblesOf (drop 2 bytes)) {i = i} (omega arith), append-nil out))
+      ∙ rw (take-all (i * 2) out (omega arith), drop-of-length-le (nibblesOf (drop 2 bytes)) {i = i * 2} (omega arith), append-nil out))

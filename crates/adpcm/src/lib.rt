@@ -1,9 +1,10 @@
 // ADPCM: the samples that a block of 16 bytes holds.
 ghost use mathlib.Core.Path.{_≡_};
 ghost use Prim.Native.Nat.{_≤_, _<_};
-ghost use lib.ListN.{getD, drop};
+ghost use lib.IntN.{pos, _+ℤ_, _*ℤ_};
 ghost use Rattle.fixed.specs.Range.{In};
-ghost use Rattle.adpcm.specs.Adpcm.{actsAs, headerOf, k0Of, k1Of, predictedOf, sampleOf, nibblesOf, blockOf};
+ghost use Rattle.fixed.specs.Arithmetic.{floorDiv};
+ghost use Rattle.adpcm.specs.Adpcm.{actsAs, headerOf, k0Of, k1Of, sampleOf, blockOf};
 
 // How a block's samples are coded.
 pub struct Header {
@@ -45,48 +46,41 @@ fn k1(filter: u8) -> i32
     K1[filter as usize]
 }
 
-// The share of the two samples before.
-fn predicted(filter: u8, old: i16, older: i16) -> i32
-    requires { ⌜ filter < 5 ⌝ }
-    ensures { λ r. ⌜ (r ≡ predictedOf filter old older) × (In 93184 93182 r) ⌝ }
+// The share of the two samples before, by a filter's factors.
+fn predicted(f0: i32, f1: i32, old: i16, older: i16) -> i32
+    requires { ⌜ (In 0 122 f0) × (In 60 0 f1) ⌝ }
+    ensures { λ r. ⌜ (r ≡ floorDiv (old *ℤ f0 +ℤ older *ℤ f1 +ℤ pos 32) 64) × (In 93184 93182 r) ⌝ }
 {
-    (old as i32 * k0(filter) + older as i32 * k1(filter) + 32) >> 6
+    (old as i32 * f0 + older as i32 * f1 + 32) >> 6
 }
 
-// The sample of the nibble t, after the samples older and old.
-pub fn sample(t: u8, h: Header, old: i16, older: i16) -> i16
-    requires { ⌜ (t < 16) × (h .shift ≤ 12) × (h .filter < 5) ⌝ }
+// The sample of the nibble t, after the samples older and old; f0 and f1 are the factors of the header's filter.
+pub fn sample(t: u8, h: Header, f0: i32, f1: i32, old: i16, older: i16) -> i16
+    requires { ⌜ (t < 16) × (h .shift ≤ 12) × (f0 ≡ k0Of (h .filter)) × (In 0 122 f0) × (f1 ≡ k1Of (h .filter)) × (In 60 0 f1) ⌝ }
     ensures { λ r. ⌜ r ≡ sampleOf t h old older ⌝ }
 {
     let new = fixed::to_signed(t as u16 * 0x1000) as i32 >> h.shift;
-    fixed::saturate(new + predicted(h.filter, old, older))
+    fixed::saturate(new + predicted(f0, f1, old, older))
 }
 
-// The i-th nibble of a block.
-fn nibble_at(bytes: [u8; 16], i: usize) -> u8
-    requires { ⌜ i < 28 ⌝ }
-    ensures { λ r. ⌜ (r ≡ getD (nibblesOf (drop 2 bytes)) i 0) × (r < 16) ⌝ }
-{
-    let b = bytes[2 + i / 2];
-    if i % 2 == 0 {
-        return b % 16;
-    }
-    b / 16 % 16
-}
-
-// The samples of a block, of which old and older are the two before it.
+// The samples of a block, of which old and older are the two before it: two of each byte, low nibble first.
 pub fn decode(bytes: [u8; 16], old: i16, older: i16) -> [i16; 28]
     ensures { λ r. ⌜ r ≡ blockOf bytes old older ⌝ }
 {
     let h = header_of(bytes[0]);
+    let f0 = k0(h.filter);
+    let f1 = k1(h.filter);
     let mut out = [0i16; 28];
     let mut a = old;
     let mut b = older;
-    for i in 0..28usize {
-        let x = sample(nibble_at(bytes, i), h, a, b);
-        out[i] = x;
-        b = a;
-        a = x;
+    for i in 0..14usize {
+        let byte = bytes[2 + i];
+        let x = sample(byte % 16, h, f0, f1, a, b);
+        let y = sample(byte / 16 % 16, h, f0, f1, x, a);
+        out[i * 2] = x;
+        out[i * 2 + 1] = y;
+        b = x;
+        a = y;
     }
     out
 }

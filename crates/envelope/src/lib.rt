@@ -1,7 +1,8 @@
 // The envelope generator: the level of one voice over time.
 ghost use mathlib.Core.Path.{_≡_};
-ghost use mathlib.Core.Bool.{cond, false};
+ghost use mathlib.Core.Bool.{cond, false, _&&_};
 ghost use Prim.Native.Nat.{_-_, _^_, _<_};
+ghost use lib.Dec.{ltb};
 ghost use lib.IntN.{pos};
 ghost use Rattle.fixed.specs.Range.{In};
 ghost use Rattle.envelope.specs.Adsr.{rise, fall, rateOf, sustainLevel, cyclesOf, stepOf, clamped, active, enteredOf, phaseAfter, movedOf, tickedOf};
@@ -203,6 +204,13 @@ fn moved(phase: Phase, level: u16, low: u16, high: u16) -> Envelope
     let rate = rate_of(phase, low, high);
     let next = clamp(level as i32 + step(rate, level));
     enter(phase_after(phase, next, low), next, low, high)
+}
+
+// Whether the next tick of an envelope only waits.
+pub fn waits(phase: Phase, wait: u32) -> bool
+    ensures { λ r. ⌜ r ≡ (active phase && ltb 1 wait) ⌝ }
+{
+    is_active(phase) & (1 < wait)
 }
 
 // One tick: most only wait, and look at no rate.

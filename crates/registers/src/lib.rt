@@ -1,7 +1,8 @@
 // The registers as last written: 256 halfwords, the one at an offset from 1F801C00h.
 ghost use mathlib.Core.Path.{_≡_};
 ghost use Prim.Native.Nat.{_<_};
-ghost use Rattle.registers.specs.Map.{registerAt, ofVoice, flagOf};
+ghost use Rattle.fixed.specs.Bits.{bit};
+ghost use Rattle.registers.specs.Map.{registerAt, ofVoice, flagOf, Flags};
 
 pub fn at(regs: &[u16; 256], offset: usize) -> u16
     requires { ⌜ offset < 512 ⌝ }
@@ -24,4 +25,22 @@ pub fn flag(regs: &[u16; 256], offset: usize, n: usize) -> bool
     ensures { λ r. ⌜ r ≡ flagOf (now (regs .entry)) offset n ⌝ }
 {
     (regs[offset / 2 + n / 16] >> (n % 16)) % 2 == 1
+}
+
+// The flags of a pair, as one number.
+pub fn flags(regs: &[u16; 256], offset: usize) -> u32
+    requires { ⌜ offset < 508 ⌝ }
+    ensures { λ r. ⌜ Flags (now (regs .entry)) offset r ⌝ }
+{
+    let low = at(regs, offset) as u32;
+    let high = at(regs, offset + 2) as u32;
+    low + high * 0x10000
+}
+
+// The flag of voice n among them.
+pub fn has(flags: u32, n: usize) -> bool
+    requires { ⌜ n < 24 ⌝ }
+    ensures { λ r. ⌜ r ≡ bit n flags ⌝ }
+{
+    (flags >> n) % 2 == 1
 }

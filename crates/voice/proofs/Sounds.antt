@@ -1,8 +1,10 @@
 -- What a voice gives, from what the code's parts give. Assumes nothing.
 use mathlib.Core.Path.{_≡_}
 use mathlib.Core.Bool.{true, false}
-use Prim.Native.Nat.{ℕ}
-use lib.IntN.{ℤ}
+use Prim.Native.Nat.{ℕ, _+_}
+use native.Mathlib.Omega.{arith}
+use lib.ListN.{getD}
+use lib.IntN.{ℤ, pos}
 use Rattle.fixed.specs.Signed.{signed}
 use Rattle.gauss.specs.Gauss.{indexOf, interpolatedOf}
 use Rattle.voice.specs.declared.Voice.{Voice}
@@ -15,6 +17,8 @@ module _ (s : Settings) (level : ℕ) (v : Voice) where
   sound-noise t p q = rw (t, q, p)
 
   pub sound-samples : {r x a b c d : ℤ} {k : ℕ} → s .noise ≡ false → k ≡ indexOf (v .position .counter) → x ≡ interpolatedOf k a b c d
-      → a ≡ sampleAt v 0 → b ≡ sampleAt v 1 → c ≡ sampleAt v 2 → d ≡ sampleAt v 3 → r ≡ x → r ≡ soundOf s level v
+      → a ≡ getD (v .playing .samples) (v .position .index) (pos 0) → b ≡ sampleAt v 1 → c ≡ sampleAt v 2 → d ≡ sampleAt v 3 → r ≡ x → r ≡ soundOf s level v
   unfolding soundOf
-  sound-samples t i p a b c d q = rw (t, q, p, i, a, b, c, d)
+  sound-samples t i p a b c d q =
+      let z : v .position .index + 0 ≡ v .position .index = omega arith in
+      rw (t, q, p, i, a, b, c, d, z)

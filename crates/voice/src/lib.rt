@@ -7,7 +7,7 @@ ghost use Rattle.gauss.specs.Gauss.{table as factors};
 ghost use Rattle.soundram.specs.Address.{Lent};
 ghost use Rattle.soundram.specs.Program.{Does, memOf};
 ghost use Rattle.voice.specs.Range.{InRange};
-ghost use Rattle.voice.specs.Voice.{fresh as freshVoice, keyedOn, keyedOff, stoppedOf, loopedOf, filledOf, loadOf, nextOf, mutedOf, endedOf, readyOf, sampleAt, soundOf, amplitudeOf, steppedOf, targetOf, arriveOf, movesOf, tickOf, isIdle, goesOff};
+ghost use Rattle.voice.specs.Voice.{fresh as freshVoice, keyedOn, keyedOff, stoppedOf, loopedOf, filledOf, loadOf, nextOf, mutedOf, endedOf, readyOf, soundOf, amplitudeOf, movementOf, steppedOf, targetOf, arriveOf, movesOf, tickOf, isIdle, goesOff};
 use envelope::Envelope;
 use envelope::Phase;
 use soundram::ByteAddress;
@@ -68,6 +68,14 @@ pub struct Loaded {
 struct Stepped {
     voice: Voice,
     target: u32,
+}
+
+// What a tick of a voice with its block loaded gives, beside its envelope's step: the place between samples, the sample that it
+// leads to, which may lie past the block's last, and the amplitude.
+pub struct Glided {
+    pub counter: u16,
+    pub target: u32,
+    pub amplitude: i16,
 }
 
 impl Voice {
@@ -265,16 +273,6 @@ fn ready(v: Voice, who: Reader, size: u32, ram: &[u8], marks: &[u8], w: Watch) -
     fetch(v, who, size, ram, marks, w)
 }
 
-// The k-th of the four samples that are interpolated.
-fn sample_at(v: Voice, k: usize) -> i16
-    requires { ⌜ (v .position .index ≤ 27) × (k < 4) ⌝ }
-    ensures { λ r. ⌜ r ≡ sampleAt v k ⌝ }
-{
-    let samples = v.playing.samples;
-    let i = v.position.index as usize;
-    samples[i + k]
-}
-
 // What the voice gives before its envelope: its samples, interpolated, or the noise.
 fn sound(table: &[i16; 512], s: Settings, level: u16, v: Voice) -> i16
     requires { ⌜ (now table ≡ factors) × (v .position .index ≤ 27) ⌝ }
@@ -284,13 +282,15 @@ fn sound(table: &[i16; 512], s: Settings, level: u16, v: Voice) -> i16
         return fixed::to_signed(level);
     }
     let i = gauss::index(v.position.counter);
+    let samples = v.playing.samples;
+    let k = v.position.index as usize;
     gauss::interpolate(
         table,
         i,
-        sample_at(v, 0),
-        sample_at(v, 1),
-        sample_at(v, 2),
-        sample_at(v, 3),
+        samples[k],
+        samples[k + 1],
+        samples[k + 2],
+        samples[k + 3],
     )
 }
 
@@ -320,6 +320,20 @@ fn step(v: Voice, s: Settings, below: i16) -> Stepped
     Stepped {
         voice,
         target: index as u32 + m.moves,
+    }
+}
+
+// A tick of a voice with its block loaded, but for its envelope's step and the next block.
+pub fn glide(table: &[i16; 512], v: Voice, s: Settings, below: i16, level: u16) -> Glided
+    requires { ⌜ (now table ≡ factors) × (v .position .counter < 0x1000) × (v .position .index ≤ 27) × (v .envelope .level ≤ 0x7FFF) ⌝ }
+    ensures { λ r. ⌜ (r .counter ≡ movementOf s below v .counter) × (r .target ≡ targetOf s below v) × (r .target < 32) × (r .amplitude ≡ amplitudeOf s level v) ⌝ }
+{
+    let x = amplitude(table, s, level, v);
+    let p = pitch::advance(v.position.counter, pitch::step(s.pitch, s.modulated, below));
+    Glided {
+        counter: p.counter,
+        target: v.position.index as u32 + p.moves,
+        amplitude: x,
     }
 }
 
@@ -363,7 +377,7 @@ fn moves(
     arrive(t.voice, t.target, who, size, ram, marks, w)
 }
 
-fn is_idle(phase: Phase) -> bool
+pub fn is_idle(phase: Phase) -> bool
     ensures { λ r. ⌜ r ≡ isIdle phase ⌝ }
 {
     match phase {

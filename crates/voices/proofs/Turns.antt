@@ -1,26 +1,29 @@
 -- The voices one after the other. Assumes nothing.
-use mathlib.Core.Path.{_≡_, sym, subst, _∙_}
+use mathlib.Core.Path.{_≡_, refl, sym, subst, _∙_}
+use mathlib.Core.Bool.{Bool, true}
 use mathlib.Core.List.{List}
-use Prim.Native.Nat.{ℕ, zero, suc, _≤_, _<_}
+use Prim.Native.Nat.{ℕ, zero, suc, _+_, _≤_, _<_}
 use native.Mathlib.Decide.{ℕ-discrete}
+use native.Mathlib.Numerals.{add-one}
 use native.Mathlib.Omega.{arith}
 use lib.ListN.{length, getD, set, length-set}
-use lib.Seq.{getD-set-same, getD-set-other}
-use lib.IntN.{ℤ}
+use lib.Seq.{getD-set-same, getD-set-other, set-getD}
+use lib.IntN.{ℤ, pos}
 use Rattle.soundram.specs.declared.Reader.{Reader}
 use Rattle.soundram.specs.Address.{Sized}
 use Rattle.soundram.specs.Program.{Mem, Does, repeat}
 use Rattle.soundram.specs.TwoRuns.{Safe}
-use Rattle.soundram.proofs.Programs.{Always, ends, always-bind, always-does, does-done, does-give, does-bind}
+use Rattle.soundram.proofs.Programs.{Always, ends, always-bind, always-does, does-done, does-give, does-bind, repeat-none, repeat-more}
 use Rattle.soundram.proofs.TwoRuns.{safe-done, safe-bind, safe-repeat}
 use Rattle.voice.specs.declared.Voice.{Voice}
 use Rattle.voice.specs.declared.Settings.{Settings}
-use Rattle.voice.specs.Voice.{tickOf}
+use Rattle.voice.specs.Voice.{isIdle, tickOf}
 use Rattle.voice.specs.Range.{InRange}
-use Rattle.voice.proofs.Range.{tick-in}
+use Rattle.voice.proofs.Range.{tick-in, tick-range}
+use Rattle.voice.proofs.Ticks.{tick-idle}
 use Rattle.voice.proofs.Safe.{safe-tick}
 use Rattle.voices.specs.declared.Sums.{Sums}
-use Rattle.voices.specs.Voices.{settingsOf, addedOf, One, turnOf, Bank, pastEnd, voiceAt, AllIn}
+use Rattle.voices.specs.Voices.{settingsOf, addedOf, noSums, mixedOf, One, turnOf, Bank, pastEnd, voiceAt, AllIn}
 
 -- p are the settings, b the amplitude below and a the voice's own as the calls have them
 pub turn-does : (size : ℕ) (regs : List ℕ) (level n : ℕ) (v : Voice) (s : Sums) {p : Settings} {b a x : ℤ} {w : Voice} {t : Sums} {m o : Mem} → p ≡ settingsOf regs n
@@ -32,10 +35,6 @@ turn-does size regs level n v s {m} {o} p b d x e = does-bind _ (rw (p, b) at d)
 turn-in : {size : ℕ} (regs : List ℕ) (level n : ℕ) (v : Voice) (s : Sums) → Sized size → InRange size v → Always (λ (o : One). InRange size (o .voice)) (turnOf size regs level n v s)
 unfolding turnOf
 turn-in regs level n v s z r = always-bind (tick-in (Reader.Voice n) (settingsOf regs n) (s .below) level v z r) (λ t q. ends q)
-
-pub turn-range : (size : ℕ) (regs : List ℕ) (level n : ℕ) (v : Voice) (s : Sums) {w : Voice} {t : Sums} {m o : Mem}
-    → Does (turnOf size regs level n v s) m (record { voice = w; sums = t }) o → Sized size → InRange size v → InRange size w
-turn-range size regs level n v s d z r = always-does (turn-in regs level n v s z r) d
 
 pub voice-does : (size : ℕ) (regs : List ℕ) (level n : ℕ) (vs : List Voice) (s : Sums) {w : Voice} {t : Sums} {m o : Mem}
     → Does (turnOf size regs level n (getD vs n pastEnd) s) m (record { voice = w; sums = t }) o
@@ -51,6 +50,71 @@ all-set {size} vs n {w} a l h r =
         | no ne ↦ rw (getD-set-other vs n k w pastEnd ne) (a .each k p)
       ];
     }
+
+-- ---- the sums of the amplitudes, as they come
+
+mixed-kept : (regs : List ℕ) (hs : List ℤ) (n : ℕ) (a : ℤ) (k : ℕ) → k ≤ n → mixedOf regs (set hs n a) k ≡ mixedOf regs hs k
+unfolding mixedOf
+mixed-kept regs hs n a zero h = refl
+mixed-kept regs hs n a (suc k) h = rw (mixed-kept regs hs n a k (omega arith), getD-set-other hs n k a (pos 0) (other h))
+  where
+    other : suc k ≤ n → k ≡ n → ⊥
+    other h e = omega arith
+
+mixed-more : (regs : List ℕ) (hs : List ℤ) (n : ℕ) (a : ℤ) → length hs ≡ 24 → n < 24 → mixedOf regs (set hs n a) (n + 1) ≡ addedOf regs n a (mixedOf regs hs n)
+unfolding mixedOf
+mixed-more regs hs n a l h = rw (add-one n, getD-set-same hs n a (pos 0) (omega arith), mixed-kept regs hs n a n (omega arith))
+
+-- n voices have played: vs are the voices, hs their amplitudes, b is the last
+pub record Play (size : ℕ) (regs : List ℕ) (level : ℕ) (vs₀ : List Voice) (m₀ : Mem) (n : ℕ) (vs : List Voice) (hs : List ℤ) (b : ℤ) (m : Mem) : Type 0 where
+  pub few : n ≤ 24
+  pub voices : length vs ≡ 24
+  pub amplitudes : length hs ≡ 24
+  pub all : AllIn size vs
+  pub below : mixedOf regs hs n .below ≡ b
+  pub does : Does (repeat (voiceAt size regs level) n (record { voices = vs₀; sums = noSums })) m₀ (record { voices = vs; sums = mixedOf regs hs n }) m
+
+module _ {size : ℕ} {regs : List ℕ} {level : ℕ} where
+  pub play-none : (vs : List Voice) (hs : List ℤ) (m : Mem) → length vs ≡ 24 → length hs ≡ 24 → AllIn size vs → Play size regs level vs m 0 vs hs (pos 0) m
+  unfolding mixedOf noSums
+  play-none vs hs m l k a = record { few = omega arith; voices = l; amplitudes = k; all = a; below = refl; does = repeat-none _ _ _ }
+
+  module _ {vs₀ : List Voice} {m₀ : Mem} {n : ℕ} {vs : List Voice} {hs : List ℤ} {b : ℤ} {m : Mem} (z : Sized size) (p : Play size regs level vs₀ m₀ n vs hs b m) (h : n < 24) where
+    -- x is the amplitude as it is kept
+    pub play-more : {s : Settings} {w : Voice} {a x : ℤ} {o : Mem} → s ≡ settingsOf regs n
+        → Does (tickOf (Reader.Voice n) size s b level (getD vs n pastEnd)) m (record { voice = w; amplitude = a }) o → x ≡ a
+        → Play size regs level vs₀ m₀ (n + 1) (set vs n w) (set hs n x) x o
+    unfolding addedOf
+    play-more {x} e d q =
+        let s = mixed-more regs hs n x (p .amplitudes) h in
+        let r = tick-range _ _ _ _ _ _ d z (p .all .each n h) in
+        record {
+          few = omega arith;
+          voices = length-set vs n _ ∙ p .voices;
+          amplitudes = length-set hs n x ∙ p .amplitudes;
+          all = all-set vs n (p .all) (p .voices) h r;
+          below = rw s;
+          does = repeat-more _ n _ _ _ (p .does) (voice-does size regs level n vs _ (turn-does size regs level n _ _ e (sym (p .below)) d q s));
+        }
+
+    -- an idle voice stays as it is
+    pub play-idle : {i : Bool} → i ≡ isIdle (getD vs n pastEnd .envelope .phase) → i ≡ true → Play size regs level vs₀ m₀ (n + 1) vs (set hs n (pos 0)) (pos 0) m
+    play-idle j t =
+        subst (λ (us : List Voice). Play size regs level vs₀ m₀ (n + 1) us (set hs n (pos 0)) (pos 0) m) (set-getD vs n pastEnd)
+        (play-more refl (tick-idle _ _ _ _ _ _ j m t) refl)
+
+  pub play-all : {vs₀ : List Voice} {m₀ : Mem} {n : ℕ} {vs : List Voice} {hs : List ℤ} {b : ℤ} {m : Mem} → Play size regs level vs₀ m₀ n vs hs b m → 24 ≤ n
+      → Does (repeat (voiceAt size regs level) 24 (record { voices = vs₀; sums = noSums })) m₀ (record { voices = vs; sums = mixedOf regs hs 24 }) m
+  play-all {vs₀} {m₀} {n} {vs} {hs} {m} p h =
+      let e : n ≡ 24 = omega (arith, p .few) in
+      subst
+      (λ (k : ℕ). Does (repeat (voiceAt size regs level) k (record { voices = vs₀; sums = noSums })) m₀ (record { voices = vs; sums = mixedOf regs hs k }) m) e
+      (p .does)
+
+pub play-mixed : (size : ℕ) (regs : List ℕ) (level : ℕ) (vs : List Voice) (hs : List ℤ) {us : List Voice} {s : Sums} {m o : Mem}
+    → Does (repeat (voiceAt size regs level) 24 (record { voices = vs; sums = noSums })) m (record { voices = us; sums = mixedOf regs hs 24 }) o → s ≡ mixedOf regs hs 24
+    → Does (repeat (voiceAt size regs level) 24 (record { voices = vs; sums = noSums })) m (record { voices = us; sums = s }) o
+play-mixed size regs level vs hs d e = rw e d
 
 -- ---- the voices' programs are safe, and keep them in range
 

@@ -1,10 +1,12 @@
 -- "Voices 0 to 23", one after the other, and what they give to the mix, the capture and the reverb. Assumes nothing.
+use mathlib.Core.Path.{_≡_}
 use mathlib.Core.Bool.{Bool, cond, false, _&&_}
 use mathlib.Core.List.{List, []}
-use Prim.Native.Nat.{ℕ, _<_, _*_}
+use Prim.Native.Nat.{ℕ, zero, suc, _<_, _*_}
 use lib.Dec.{eqb, ltb}
 use lib.ListN.{getD, set}
 use lib.IntN.{ℤ, pos, _+ℤ_}
+use Rattle.fixed.specs.Bits.{bit}
 use Rattle.fixed.specs.Range.{In}
 use Rattle.fixed.specs.Arithmetic.{productOf, volumeOf}
 use Rattle.envelope.specs.declared.Phase.the-variants.{Idle}
@@ -30,6 +32,15 @@ settingsOf regs n =
       modulated = flagOf regs 0x190 n && ltb 0 n;
       noise = flagOf regs 0x194 n;
     }
+
+-- the same, of flags that are at hand
+unfoldable pub flaggedOf : List ℕ → ℕ → Bool → Bool → Settings
+flaggedOf regs n modulated noise =
+    record { pitch = ofVoice regs n 4; low = ofVoice regs n 8; high = ofVoice regs n 0xA; modulated = modulated; noise = noise }
+
+-- PMON as one number, without voice 0
+pub record Modulated (regs : List ℕ) (flags : ℕ) : Type 0 where
+  pub each : (n : ℕ) → n < 24 → bit n flags ≡ (flagOf regs 0x190 n && ltb 0 n)
 
 -- ---- sides and sums
 
@@ -66,6 +77,11 @@ addedOf regs n a s =
 
 unfoldable pub noSums : Sums
 noSums = record { dry = silent; wet = silent; below = pos 0; captured = record { first = pos 0; third = pos 0 } }
+
+-- the sums of the first n voices, of all amplitudes
+unfoldable pub mixedOf : List ℕ → List ℤ → ℕ → Sums
+mixedOf regs amplitudes zero = noSums
+mixedOf regs amplitudes (suc n) = addedOf regs n (getD amplitudes n (pos 0)) (mixedOf regs amplitudes n)
 
 -- the sums of n voices: each side is at most 8000h
 pub record SidesIn (n : ℕ) (s : Sides) : Type 0 where

@@ -8,7 +8,7 @@ use Rattle.fixed.specs.Arithmetic.{saturated}
 use Rattle.fixed.proofs.Number.{Num, res, res-in, said, need, is, hold, add, shr-any, passed}
 use Rattle.fixed.proofs.TwosComplement.{signed-in}
 use Rattle.adpcm.specs.Adpcm.{sampleOf}
-use Rattle.adpcm.proofs.Laws.{nibble-placed}
+use Rattle.adpcm.proofs.Laws.{nibble-placed, predicted-by}
 use Rattle.adpcm.proofs.sample.Statement.{statement}
 use Rattle.adpcm.proofs.sample.Tie as tie
 
@@ -24,9 +24,11 @@ new c =
 
 abbrev prediction : tie.After-predicted → Num
 prediction c =
-    let f = c .before .before .before .fits in
+    let a = c .before .before .before in
+    let f = a .fits in
     let e = c .predicted .ensures in
-    res-in w32 (rw (toZ-ofZ (f .old), toZ-ofZ (f .older)) at (e .0)) (e .1) tt
+    said (res-in w32 (rw (toZ-ofZ (f .old), toZ-ofZ (f .older), toZ-ofZ (f .f0), toZ-ofZ (f .f1)) at (e .0)) (e .1) tt)
+    (predicted-by (a .args .h .filter) (a .args .old) (a .args .older) (a .pre .2) (a .pre .4))
 
 abbrev total : tie.After-predicted → Num
 total c = add (new c) (prediction c)

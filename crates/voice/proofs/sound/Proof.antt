@@ -14,17 +14,41 @@ returns c = search (sound-noise, needs)
 index-requires : tie.Need-index-requires
 index-requires c κs = search needs
 
-sample-at-requires : tie.Need-sample-at-requires
-sample-at-requires c κs = search needs
+cast-k : tie.Need-cast-k
+cast-k c = search needs
 
-sample-at-requires-2 : tie.Need-sample-at-requires-2
-sample-at-requires-2 c κs = search needs
+mul-interpolate : tie.Need-mul-interpolate
+mul-interpolate c = search needs
 
-sample-at-requires-3 : tie.Need-sample-at-requires-3
-sample-at-requires-3 c κs = search needs
+array-copy-out-interpolate : tie.Need-array-copy-out-interpolate
+array-copy-out-interpolate c = search needs
 
-sample-at-requires-4 : tie.Need-sample-at-requires-4
-sample-at-requires-4 c κs = search needs
+add-interpolate : tie.Need-add-interpolate
+add-interpolate c = search needs
+
+mul-interpolate-2 : tie.Need-mul-interpolate-2
+mul-interpolate-2 c = search needs
+
+array-copy-out-interpolate-2 : tie.Need-array-copy-out-interpolate-2
+array-copy-out-interpolate-2 c = search needs
+
+add-interpolate-2 : tie.Need-add-interpolate-2
+add-interpolate-2 c = search needs
+
+mul-interpolate-3 : tie.Need-mul-interpolate-3
+mul-interpolate-3 c = search needs
+
+array-copy-out-interpolate-3 : tie.Need-array-copy-out-interpolate-3
+array-copy-out-interpolate-3 c = search needs
+
+add-interpolate-3 : tie.Need-add-interpolate-3
+add-interpolate-3 c = search needs
+
+mul-interpolate-4 : tie.Need-mul-interpolate-4
+mul-interpolate-4 c = search needs
+
+array-copy-out-interpolate-4 : tie.Need-array-copy-out-interpolate-4
+array-copy-out-interpolate-4 c = search needs
 
 interpolate-requires : tie.Need-interpolate-requires
 interpolate-requires c κs = search needs
@@ -35,11 +59,11 @@ returns-2 c =
     let s2 = s3 .before in
     let s1 = s2 .before in
     let s0 = s1 .before in
-    sound-samples _ _ _ (s0 .before .before .if1 .left) (s0 .before .index .ensures) (c .interpolate .ensures)
-    (passed w16 (s0 .sample-at .ok) (s0 .sample-at .ensures))
-    (passed w16 (s1 .sample-at2 .ok) (s1 .sample-at2 .ensures))
-    (passed w16 (s2 .sample-at3 .ok) (s2 .sample-at3 .ensures))
-    (passed w16 (s3 .sample-at4 .ok) (s3 .sample-at4 .ensures))
+    let i = s0 .before .before .before in
+    sound-samples _ _ _ (i .before .if1 .left) (i .index .ensures) (c .interpolate .ensures) (search (needs, s0 .interpolate-arg .given))
+    (search (needs, s1 .interpolate-arg2 .given))
+    (search (needs, s2 .interpolate-arg3 .given))
+    (search (needs, s3 .interpolate-arg4 .given))
     (is (ok w16 (c .interpolate .result) (c .interpolate .ok)))
 
 pub sound-spec : {M : Type 1} → statement M
@@ -49,9 +73,17 @@ sound-spec =
     to-signed-requires
     returns
     index-requires
-    sample-at-requires
-    sample-at-requires-2
-    sample-at-requires-3
-    sample-at-requires-4
+    cast-k
+    mul-interpolate
+    array-copy-out-interpolate
+    add-interpolate
+    mul-interpolate-2
+    array-copy-out-interpolate-2
+    add-interpolate-2
+    mul-interpolate-3
+    array-copy-out-interpolate-3
+    add-interpolate-3
+    mul-interpolate-4
+    array-copy-out-interpolate-4
     interpolate-requires
     returns-2)
