@@ -1,0 +1,58 @@
+use Rattle.text.proofs.put_text.Statement.{statement}
+use Rattle.text.proofs.put_text.Tie as tie
+use Rattle.text.proofs.put_text.Reads as reads
+use Rattle.text.proofs.put_text.Lts as lts
+use Rattle.text.proofs.put_byte.Reads as put-byte-reads
+
+abbrev Inv-loop : tie.InvT-loop
+Inv-loop out₀ place text at₀ i₀ out at i = ?
+
+abbrev μ-loop : tie.MeasureT-loop
+μ-loop out₀ place text at₀ i₀ out at i = ?
+
+-- src/lib.rt:23:5
+loop-holds : tie.Need-loop-holds Inv-loop μ-loop
+loop-holds c = ?
+
+-- src/lib.rt:24:32
+shared-slice-read-put-byte : tie.Need-shared-slice-read-put-byte Inv-loop μ-loop
+shared-slice-read-put-byte c = ?
+
+-- src/lib.rt:24:9
+put-byte-requires : tie.Need-put-byte-requires Inv-loop μ-loop
+put-byte-requires c κs = ?
+
+-- src/lib.rt:25:9
+add-i : tie.Need-add-i Inv-loop μ-loop
+add-i c = ?
+
+-- src/lib.rt:23:5
+loop-less : tie.Need-loop-less Inv-loop μ-loop
+loop-less c = ?
+
+-- src/lib.rt:23:5
+loop-again : tie.Need-loop-again Inv-loop μ-loop
+loop-again c = ?
+
+-- src/lib.rt:18:1
+same-length : tie.Need-same-length Inv-loop μ-loop
+same-length c = ?
+
+-- src/lib.rt:18:1
+returns : tie.Need-returns Inv-loop μ-loop
+returns c = ?
+
+pub put-text-spec : {M : Type 1} → statement M
+put-text-spec =
+    tie.close
+    (tie.spec
+    Inv-loop
+    μ-loop
+    loop-holds
+    shared-slice-read-put-byte
+    put-byte-requires
+    add-i
+    loop-less
+    loop-again
+    same-length
+    returns)
