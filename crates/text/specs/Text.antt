@@ -24,8 +24,8 @@ printedOf p [] = p
 printedOf p (b ∷ bs) = printedOf (putOf p b) bs
 
 -- the text was put into the bytes at the place
-unfoldable pub Prints : List ℕ → List ℕ → ℕ → List ℕ → ℕ → Type 0
-Prints text bytes place bytes′ place′ = printedOf (page bytes place) text ≡ page bytes′ place′
+pub record Prints (text bytes : List ℕ) (place : ℕ) (bytes′ : List ℕ) (place′ : ℕ) : Type 0 where
+  pub is : printedOf (page bytes place) text ≡ page bytes′ place′
 
 -- ---- numbers as text
 

@@ -1,3 +1,4 @@
+use Rattle.text.proofs.Numbers.{glyph-decimal, glyph-letter}
 use borrow.Author.Needs.{needs}
 use Rattle.text.proofs.glyph.Statement.{statement}
 use Rattle.text.proofs.glyph.Tie as tie
@@ -14,7 +15,7 @@ add-result c = search needs
 
 -- src/lib.rt:35:9
 returns : tie.Need-returns
-returns c = ?
+returns c = search glyph-decimal
 
 -- src/lib.rt:37:10
 cast-result-2 : tie.Need-cast-result-2
@@ -26,7 +27,7 @@ add-result-2 c = search needs
 
 -- src/lib.rt:30:1
 returns-2 : tie.Need-returns-2
-returns-2 c = ?
+returns-2 c = search glyph-letter
 
 pub glyph-spec : {M : Type 1} → statement M
 glyph-spec =

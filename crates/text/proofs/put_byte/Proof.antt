@@ -1,3 +1,4 @@
+use Rattle.text.proofs.Laws.{byte-put, byte-dropped}
 use borrow.Author.Needs.{needs}
 use Rattle.text.proofs.put_byte.Statement.{statement}
 use Rattle.text.proofs.put_byte.Tie as tie
@@ -18,11 +19,11 @@ same-length c = search needs
 
 -- src/lib.rt:13:9
 returns : tie.Need-returns
-returns c = ?
+returns c = search byte-put
 
 -- src/lib.rt:8:1
 returns-2 : tie.Need-returns-2
-returns-2 c = ?
+returns-2 c = search byte-dropped
 
 pub put-byte-spec : {M : Type 1} → statement M
 put-byte-spec = tie.close (tie.spec slice-write-out add-result same-length returns returns-2)

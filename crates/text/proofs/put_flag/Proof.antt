@@ -1,3 +1,4 @@
+use Rattle.text.proofs.Laws.{prints-set, prints-clear}
 use borrow.Author.Needs.{needs}
 use Rattle.text.proofs.put_flag.Statement.{statement}
 use Rattle.text.proofs.put_flag.Tie as tie
@@ -15,7 +16,7 @@ same-length c = search needs
 
 -- src/lib.rt:92:9
 returns : tie.Need-returns
-returns c = ?
+returns c = search prints-set
 
 -- src/lib.rt:94:5
 put-byte-requires-2 : tie.Need-put-byte-requires-2
@@ -27,7 +28,7 @@ same-length-2 c = search needs
 
 -- src/lib.rt:88:1
 returns-2 : tie.Need-returns-2
-returns-2 c = ?
+returns-2 c = search prints-clear
 
 pub put-flag-spec : {M : Type 1} → statement M
 put-flag-spec =
