@@ -35,6 +35,10 @@ sampleOf f = signed 16 (halfword f)
 abbrev pub addressOf : Field → ℕ
 addressOf f = f .value % 0x100000000
 
+-- a count, well below the limit to which it is kept
+abbrev pub countOf : Field → ℕ
+countOf f = f .count % 0x100000
+
 -- ---- the commands
 
 -- "w OFF VAL"
@@ -54,17 +58,17 @@ inwardOf l = cond (leb 2 (l .count) && (leb (l .count) 34 && l .halfwords)) (Inw
 
 -- "o N", "N to 64"
 unfoldable pub outwardOf : Line → Command
-outwardOf l = cond (given 1 l && isCount 0 64 (fieldAt l 1)) (Outward (fieldAt l 1 .count)) Bad
+outwardOf l = cond (given 1 l && isCount 0 64 (fieldAt l 1)) (Outward (countOf (fieldAt l 1))) Bad
 
 -- "t N" of bench, "to 65535", CD zero
 unfoldable pub plainOf : Bool → Line → Command
-plainOf floats l = cond (given 1 l && isCount 0 65535 (fieldAt l 1)) (Tick floats (fieldAt l 1 .count) (pos 0) (pos 0)) Bad
+plainOf floats l = cond (given 1 l && isCount 0 65535 (fieldAt l 1)) (Tick floats (countOf (fieldAt l 1)) (pos 0) (pos 0)) Bad
 
 -- "t N [CDL CDR]", "f N [CDL CDR]"
 unfoldable pub tickOf : Bool → Line → Command
 tickOf floats l =
     cond (given 3 l && (isCount 0 65535 (fieldAt l 1) && (isHex 4 4 (fieldAt l 2) && isHex 4 4 (fieldAt l 3))))
-    (Tick floats (fieldAt l 1 .count) (sampleOf (fieldAt l 2)) (sampleOf (fieldAt l 3)))
+    (Tick floats (countOf (fieldAt l 1)) (sampleOf (fieldAt l 2)) (sampleOf (fieldAt l 3)))
     (plainOf floats l)
 
 -- "v ADDR", "ADDR to 8 digits"
@@ -82,20 +86,20 @@ ranged size unit least most l =
 
 -- "ram ADDR N", "N 1 to 64"
 unfoldable pub ramOf : ℕ → Line → Command
-ramOf size l = cond (given 2 l && ranged size 1 1 64 l) (Ram (addressOf (fieldAt l 1)) (fieldAt l 2 .count)) Bad
+ramOf size l = cond (given 2 l && ranged size 1 1 64 l) (Ram (addressOf (fieldAt l 1)) (countOf (fieldAt l 2))) Bad
 
 -- "marks ADDR N", "of N halfwords from even ADDR on, N 1 to 64"
 unfoldable pub marksOf : ℕ → Line → Command
 marksOf size l =
     cond (given 2 l && (ranged size 2 1 64 l && eqb (addressOf (fieldAt l 1) % 2) 0))
-    (Marks (addressOf (fieldAt l 1)) (fieldAt l 2 .count))
+    (Marks (addressOf (fieldAt l 1)) (countOf (fieldAt l 2)))
     Bad
 
 -- "fill ADDR N BB"
 unfoldable pub fillOf : ℕ → Line → Command
 fillOf size l =
     cond (given 3 l && (ranged size 1 0 0x80000 l && isHex 1 2 (fieldAt l 3)))
-    (Fill (addressOf (fieldAt l 1)) (fieldAt l 2 .count) (fieldAt l 3 .value % 0x100))
+    (Fill (addressOf (fieldAt l 1)) (countOf (fieldAt l 2)) (fieldAt l 3 .value % 0x100))
     Bad
 
 -- ---- by its word

@@ -21,11 +21,11 @@ pub enum Command {
         count: usize,
     },
     Outward {
-        count: u64,
+        count: u32,
     },
     Tick {
         floats: bool,
-        count: u64,
+        count: u32,
         left: i16,
         right: i16,
     },
@@ -35,15 +35,15 @@ pub enum Command {
     Reset,
     Ram {
         address: u32,
-        count: u64,
+        count: u32,
     },
     Marks {
         address: u32,
-        count: u64,
+        count: u32,
     },
     Fill {
         address: u32,
-        count: u64,
+        count: u32,
         byte: u8,
     },
 }
@@ -92,7 +92,9 @@ fn outward_line(l: Line) -> Command
     let fields = l.fields;
     let a = fields[1];
     if (l.count == 2) & lines::is_count(a, 0, 64) {
-        return Command::Outward { count: a.count };
+        return Command::Outward {
+            count: (a.count % 0x100000) as u32,
+        };
     }
     Command::Bad
 }
@@ -105,7 +107,7 @@ fn plain_line(floats: bool, l: Line) -> Command
     if (l.count == 2) & lines::is_count(a, 0, 65535) {
         return Command::Tick {
             floats,
-            count: a.count,
+            count: (a.count % 0x100000) as u32,
             left: 0,
             right: 0,
         };
@@ -125,7 +127,7 @@ fn tick_line(floats: bool, l: Line) -> Command
     {
         return Command::Tick {
             floats,
-            count: a.count,
+            count: (a.count % 0x100000) as u32,
             left: fixed::to_signed((b.value % 0x10000) as u16),
             right: fixed::to_signed((d.value % 0x10000) as u16),
         };
@@ -178,7 +180,7 @@ fn ram_line(size: u64, l: Line) -> Command
     if (l.count == 3) & ranged(size, 1, 1, 64, l) {
         return Command::Ram {
             address: (a.value % 0x100000000) as u32,
-            count: b.count,
+            count: (b.count % 0x100000) as u32,
         };
     }
     Command::Bad
@@ -193,7 +195,7 @@ fn marks_line(size: u64, l: Line) -> Command
     if (l.count == 3) & (ranged(size, 2, 1, 64, l) & (a.value % 0x100000000 % 2 == 0)) {
         return Command::Marks {
             address: (a.value % 0x100000000) as u32,
-            count: b.count,
+            count: (b.count % 0x100000) as u32,
         };
     }
     Command::Bad
@@ -209,7 +211,7 @@ fn fill_line(size: u64, l: Line) -> Command
     if (l.count == 4) & (ranged(size, 1, 0, 0x80000, l) & lines::is_hex(d, 1, 2)) {
         return Command::Fill {
             address: (a.value % 0x100000000) as u32,
-            count: b.count,
+            count: (b.count % 0x100000) as u32,
             byte: (d.value % 0x100) as u8,
         };
     }

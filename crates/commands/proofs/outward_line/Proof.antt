@@ -7,23 +7,28 @@ use Rattle.commands.proofs.outward_line.Reads as reads
 use Rattle.commands.proofs.outward_line.Lts as lts
 use Rattle.lines.proofs.is_count.Reads as is-count-reads
 
--- src/lib.rt:65:13
+-- src/lib.rt:93:13
 array-copy-out-a : tie.Need-array-copy-out-a
 array-copy-out-a c = search needs
 
--- src/lib.rt:66:25
+-- src/lib.rt:94:25
 is-count-requires : tie.Need-is-count-requires
 is-count-requires c κs = search needs
 
--- src/lib.rt:67:9
+-- src/lib.rt:95:42
+cast-t11 : tie.Need-cast-t11
+cast-t11 c = search needs
+
+-- src/lib.rt:95:9
 returns : tie.Need-returns
 unfolding outwardOf
 returns c = search pick-1
 
--- src/lib.rt:61:1
+-- src/lib.rt:89:1
 returns-2 : tie.Need-returns-2
 unfolding outwardOf
 returns-2 c = search pass-1
 
 pub outward-line-spec : {M : Type 1} → statement M
-outward-line-spec = tie.close (tie.spec array-copy-out-a is-count-requires returns returns-2)
+outward-line-spec =
+    tie.close (tie.spec array-copy-out-a is-count-requires cast-t11 returns returns-2)

@@ -7,23 +7,28 @@ use Rattle.commands.proofs.plain_line.Reads as reads
 use Rattle.commands.proofs.plain_line.Lts as lts
 use Rattle.lines.proofs.is_count.Reads as is-count-reads
 
--- src/lib.rt:76:13
+-- src/lib.rt:104:13
 array-copy-out-a : tie.Need-array-copy-out-a
 array-copy-out-a c = search needs
 
--- src/lib.rt:77:25
+-- src/lib.rt:105:25
 is-count-requires : tie.Need-is-count-requires
 is-count-requires c κs = search needs
 
--- src/lib.rt:78:9
+-- src/lib.rt:108:20
+cast-t12 : tie.Need-cast-t12
+cast-t12 c = search needs
+
+-- src/lib.rt:106:9
 returns : tie.Need-returns
 unfolding plainOf
 returns c = search pick-1
 
--- src/lib.rt:72:1
+-- src/lib.rt:100:1
 returns-2 : tie.Need-returns-2
 unfolding plainOf
 returns-2 c = search pass-1
 
 pub plain-line-spec : {M : Type 1} → statement M
-plain-line-spec = tie.close (tie.spec array-copy-out-a is-count-requires returns returns-2)
+plain-line-spec =
+    tie.close (tie.spec array-copy-out-a is-count-requires cast-t12 returns returns-2)
