@@ -33,6 +33,9 @@ prints-none o a = record { is = refl }
 pub prints-then : {s t o o′ o″ : List ℕ} {a a′ a″ : ℕ} → Prints s o a o′ a′ → Prints t o′ a′ o″ a″ → Prints (s ++ t) o a o″ a″
 prints-then {s} {t} {o} {o′} {o″} {a} p q = record { is = printed-append s t (page o a) ∙ ap (λ (x : Page). printedOf x t) (p .is) ∙ q .is }
 
+pub prints-byte : {b : ℕ} {t o o′ o″ : List ℕ} {a a′ a″ : ℕ} → Prints (b ∷ []) o a o′ a′ → Prints t o′ a′ o″ a″ → Prints (b ∷ t) o a o″ a″
+prints-byte p q = prints-then p q
+
 pub prints-set : (b : Bool) {o o′ : List ℕ} {a a′ : ℕ} → b ≡ true → Prints (49 ∷ []) o a o′ a′ → Prints (flagText b) o a o′ a′
 prints-set b e p = rw e p
 
@@ -49,6 +52,9 @@ left-all t o a = record { is = refl }
 
 pub left-more : {w o₀ o o′ rest : List ℕ} {a₀ a a′ b : ℕ} → Left w o₀ a₀ (b ∷ rest) o a → Prints (b ∷ []) o a o′ a′ → Left w o₀ a₀ rest o′ a′
 left-more {rest = rest} l p = record { is = ap (λ (x : Page). printedOf x rest) (sym (p .is)) ∙ l .is }
+
+pub left-then : {w o₀ o o′ s rest : List ℕ} {a₀ a a′ : ℕ} → Left w o₀ a₀ (s ++ rest) o a → Prints s o a o′ a′ → Left w o₀ a₀ rest o′ a′
+left-then {o = o} {s = s} {rest = rest} {a = a} l p = record { is = ap (λ (x : Page). printedOf x rest) (sym (p .is)) ∙ sym (printed-append s rest (page o a)) ∙ l .is }
 
 pub left-none : {w o₀ o : List ℕ} {a₀ a : ℕ} → Left w o₀ a₀ [] o a → Prints w o₀ a₀ o a
 left-none l = record { is = sym (l .is) }

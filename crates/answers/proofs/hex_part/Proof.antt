@@ -1,0 +1,29 @@
+use Rattle.text.proofs.Laws.{prints-byte}
+use Rattle.answers.specs.Answer.{hexPart}
+use borrow.Author.Needs.{needs}
+use Rattle.answers.proofs.hex_part.Statement.{statement}
+use Rattle.answers.proofs.hex_part.Tie as tie
+use Rattle.answers.proofs.hex_part.Reads as reads
+use Rattle.answers.proofs.hex_part.Lts as lts
+use Rattle.text.proofs.put_byte.Reads as put-byte-reads
+use Rattle.text.proofs.put_hex.Reads as put-hex-reads
+
+-- src/lib.rt:35:9
+put-byte-requires : tie.Need-put-byte-requires
+put-byte-requires c κs = search needs
+
+-- src/lib.rt:36:5
+put-hex-requires : tie.Need-put-hex-requires
+put-hex-requires c κs = search needs
+
+-- src/lib.rt:31:1
+same-length : tie.Need-same-length
+same-length c = search needs
+
+-- src/lib.rt:31:1
+returns : tie.Need-returns
+unfolding hexPart
+returns c = search prints-byte
+
+pub hex-part-spec : {M : Type 1} → statement M
+hex-part-spec = tie.close (tie.spec put-byte-requires put-hex-requires same-length returns)
