@@ -65,9 +65,12 @@ unfoldable pub halfwordsFrom : List ℕ → ℕ → ℕ → List ℕ
 halfwordsFrom hs i zero = []
 halfwordsFrom hs i (suc n) = hexPart (getD hs i 0) 4 ++ halfwordsFrom hs (i + 1) n
 
+unfoldable pub halfwordsEnd : List ℕ → List ℕ
+halfwordsEnd hs = (32 ∷ 58 ∷ []) ++ halfwordsFrom hs 0 (length hs) ++ 10 ∷ []
+
 -- "o NUM MOVED IRQ DOUBT : H .."
 unfoldable pub outwardText : ℕ → ℕ → Bool → Bool → List ℕ → List ℕ
-outwardText number moved irq doubt hs = movedOf 111 number moved irq doubt ++ (32 ∷ 58 ∷ []) ++ halfwordsFrom hs 0 (length hs) ++ 10 ∷ []
+outwardText number moved irq doubt hs = movedOf 111 number moved irq doubt ++ halfwordsEnd hs
 
 -- a letter, "NUM TICK"
 unfoldable pub tickStart : ℕ → ℕ → ℕ → List ℕ

@@ -5,7 +5,7 @@ ghost use Prim.Native.Nat.{_+_, _<_, _≤_, _/_};
 ghost use lib.ListN.{getD};
 ghost use Rattle.soundram.specs.Memory.{marked as markedAt};
 ghost use Rattle.text.specs.Text.{Prints};
-ghost use Rattle.answers.specs.Answer.{decimalPart, signedPart, pairPart, flagPart, hexPart, reportsPart, doubtEnd, endPart, startOf, writeText, readText, movedOf, inwardText, halfwordsFrom, outwardText, tickStart, tickText, bitsOf, floatsPart, floatsText, bytesFrom, bytesEnd, viewText, resetText, ramText, marksFrom, marksEnd, marksText, benchText, refusedText, titleText};
+ghost use Rattle.answers.specs.Answer.{decimalPart, signedPart, pairPart, flagPart, hexPart, reportsPart, doubtEnd, endPart, startOf, writeText, readText, movedOf, inwardText, halfwordsFrom, halfwordsEnd, outwardText, tickStart, tickText, bitsOf, floatsPart, floatsText, bytesFrom, bytesEnd, viewText, resetText, ramText, marksFrom, marksEnd, marksText, benchText, refusedText, titleText};
 
 fn decimal_part(out: &mut [u8], place: usize, n: u32) -> usize
     ensures { λ r. ⌜ Prints (decimalPart n) (now (out .entry)) place (now (out .exit)) r ⌝ }
@@ -134,6 +134,14 @@ fn halfwords(out: &mut [u8], place: usize, values: &[u16]) -> usize
     at
 }
 
+fn halfwords_end(out: &mut [u8], place: usize, values: &[u16]) -> usize
+    ensures { λ r. ⌜ Prints (halfwordsEnd (now (values .entry))) (now (out .entry)) place (now (out .exit)) r ⌝ }
+{
+    let a = text::put_text(out, place, b" :");
+    let b = halfwords(out, a, values);
+    text::put_byte(out, b, b'\n')
+}
+
 pub fn moved_out(
     out: &mut [u8],
     place: usize,
@@ -145,10 +153,8 @@ pub fn moved_out(
 ) -> usize
     ensures { λ r. ⌜ Prints (outwardText number count irq doubt (now (values .entry))) (now (out .entry)) place (now (out .exit)) r ⌝ }
 {
-    let a = moved(out, place, b'o', number, count, irq, doubt);
-    let b = text::put_text(out, a, b" :");
-    let d = halfwords(out, b, values);
-    text::put_byte(out, d, b'\n')
+    let at = moved(out, place, b'o', number, count, irq, doubt);
+    halfwords_end(out, at, values)
 }
 
 fn tick_start(out: &mut [u8], place: usize, letter: u8, number: u8, tick: u32) -> usize
