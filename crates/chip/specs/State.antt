@@ -86,8 +86,11 @@ everyOk size vs zero = true
 everyOk size vs (suc n) = everyOk size vs n && voiceOk size (getD vs n pastEnd)
 
 -- the reverb's base, "1A2h reverb base"
+abbrev pub baseAt : ℕ → List ℕ → ByteAddress
+baseAt size regs = addressOf size (record { 0 = registerAt regs 0x1A2 })
+
 abbrev pub baseOf : State → ByteAddress
-baseOf s = addressOf (s .choices .size) (record { 0 = registerAt (s .regs) 0x1A2 })
+baseOf s = baseAt (s .choices .size) (s .regs)
 
 -- "capture place even, below 400h; reverb place even, from its base to L-2; transfer address even, below L; noise timer 0..20000h"
 unfoldable pub stateOk : State → Bool

@@ -3,10 +3,11 @@ ghost use mathlib.Core.Path.{_≡_};
 ghost use mathlib.Core.Bool.{true, cond};
 ghost use Prim.Native.Nat.{_+_, _^_, _≤_, _<_};
 ghost use Rattle.chip.specs.Registers.{listed as listedAt, readOnly, notWritten, onBits, onKeys, keyed as keyedOf, keyOn, keyOff, repeated as repeatedOf, setRepeat, stopFirst, setControl, placed as placedAt, effectOf, writeOf, endFlags, statusOf, doubled as doubledAt, voiceAt, readOf};
-ghost use Rattle.chip.specs.State.{freshOf, sizeOk, voiceOk, everyOk, stateOk};
+ghost use Rattle.chip.specs.State.{freshOf, sizeOk, voiceOk, everyOk, stateOk, watchOf, watchedOf};
 use noise::Noise;
 use soundram::ByteAddress;
 use soundram::UnitAddress;
+use soundram::Watch;
 use voice::Voice;
 
 // What is fixed when a state is made.
@@ -454,4 +455,33 @@ pub fn read(s: State, offset: u32) -> u16
         return doubled(s, 0x182);
     }
     registers::at(&s.regs, offset as usize)
+}
+
+// What accesses watch, and the state once they are made.
+
+pub fn watch(s: State) -> Watch
+    requires { ⌜ 0 < s .choices .size ⌝ }
+    ensures { λ r. ⌜ r ≡ watchOf s ⌝ }
+{
+    let spucnt = registers::at(&s.regs, 0x1AA);
+    let a = soundram::address_of(s.choices.size, UnitAddress(registers::at(&s.regs, 0x1A4)));
+    Watch {
+        armed: (spucnt / 0x8000 % 2 == 1) & (spucnt / 0x40 % 2 == 1),
+        halfword: a.0 / 2,
+        latch: s.control.latch,
+        doubt: s.control.doubt,
+    }
+}
+
+pub fn watched(s: State, w: Watch) -> State
+    ensures { λ r. ⌜ r ≡ watchedOf s w ⌝ }
+{
+    let control = Control {
+        applied: s.control.applied,
+        latch: w.latch,
+        doubt: w.doubt,
+    };
+    let mut t = s;
+    t.control = control;
+    t
 }

@@ -1,17 +1,20 @@
 -- The rules of the interpolation's table, in one test that antt computes over the whole of it, and from them that the
 -- interpolation of any four 16-bit samples fits 16 bits. Assumes nothing.
+use mathlib.Core.Path.{_≡_}
 use mathlib.Core.Bool.{Bool}
+use mathlib.Core.List.{List}
 use Prim.Native.Nat.{ℕ, _+_, _-_, _*_, _≤_, _<_, zero-le}
 use native.Mathlib.Nat.{mul-le-mul, le-refl}
 use native.Mathlib.Omega.{arith}
 use lib.Dec.{T, leb, leb→le}
+use lib.ListN.{getD}
 use lib.IntN.{ℤ, pos, negsuc, natAbs, _+ℤ_, _*ℤ_}
 use lib.Signed.{leZ, shrZ}
 use Rattle.fixed.specs.Range.{In}
 use Rattle.fixed.specs.Arithmetic.{productOf}
 use Rattle.fixed.proofs.Parts.{abs-mul}
 use Rattle.fixed.proofs.Number.{both, both-l, both-r, add-in}
-use Rattle.fixed.proofs.Table.{below, below-at}
+use Rattle.fixed.proofs.Table.{below, below-at, inZ, inZ→in}
 use Rattle.gauss.specs.Gauss.{table, factorAt, tapOf, interpolatedOf}
 
 -- the four entries of an index: their sum, and the sum of their sizes
@@ -42,6 +45,16 @@ pub sum-rule : (i : ℕ) → i < 256 → T (leZ (pos 0x7F7F) (sumAt i)) × T (le
 sum-rule i h =
     let t = both-r (leb (sizesAt i) 0x7FFF) (both (least i) (most i)) (below-at 256 rule rules i h) in
     (both-l (least i) (most i) t, both-r (least i) (most i) t)
+
+-- each entry's range
+pub factor-in : (i : ℕ) → i < 512 → In 1 0x59B3 (factorAt i)
+unfolding table factorAt
+factor-in i h = inZ→in (factorAt i) (below-at 512 (λ k. inZ 1 0x59B3 (factorAt k)) tt i h)
+
+-- an entry of the table as it is lent
+pub lent-at : {t : List ℤ} (i : ℕ) → t ≡ table → getD t i (pos 0) ≡ factorAt i
+unfolding factorAt
+lent-at i e = rw e
 
 -- a 16-bit sample's share is no larger than the entry
 share : (z : ℤ) (n : ℕ) → natAbs z ≤ n * 0x8000 → In n n (shrZ z 0x8000)

@@ -2,9 +2,9 @@
 ghost use mathlib.Core.Path.{_≡_};
 ghost use Prim.Native.Nat.{_<_};
 ghost use Rattle.fixed.specs.Range.{In};
-ghost use Rattle.gauss.specs.Gauss.{factorAt, indexOf, tapOf, interpolatedOf};
+ghost use Rattle.gauss.specs.Gauss.{table as factors, factorAt, indexOf, tapOf, interpolatedOf};
 
-const TABLE: [i32; 512] = [
+const TABLE: [i16; 512] = [
     -0x0001,
     -0x0001,
     -0x0001,
@@ -519,18 +519,25 @@ const TABLE: [i32; 512] = [
     0x59B3,
 ];
 
-fn factor(i: usize) -> i32
-    requires { ⌜ i < 512 ⌝ }
-    ensures { λ r. ⌜ (r ≡ factorAt i) × (In 1 0x59B3 r) ⌝ }
+// The table, which a caller makes once and lends to each interpolation.
+pub fn table() -> [i16; 512]
+    ensures { λ r. ⌜ r ≡ factors ⌝ }
 {
-    TABLE[i]
+    TABLE
 }
 
-fn tap(i: usize, sample: i16) -> i32
-    requires { ⌜ i < 512 ⌝ }
+fn factor(t: &[i16; 512], i: usize) -> i32
+    requires { ⌜ (now t ≡ factors) × (i < 512) ⌝ }
+    ensures { λ r. ⌜ (r ≡ factorAt i) × (In 1 0x59B3 r) ⌝ }
+{
+    t[i] as i32
+}
+
+fn tap(t: &[i16; 512], i: usize, sample: i16) -> i32
+    requires { ⌜ (now t ≡ factors) × (i < 512) ⌝ }
     ensures { λ r. ⌜ (r ≡ tapOf i sample) × (In 0x59B3 0x59B2 r) ⌝ }
 {
-    fixed::product(factor(i), sample)
+    fixed::product(factor(t, i), sample)
 }
 
 // The place between two samples, from the pitch counter.
@@ -541,10 +548,14 @@ pub fn index(counter: u16) -> u8
 }
 
 // The value at place i of 256 between `older` and `old`.
-pub fn interpolate(i: u8, oldest: i16, older: i16, old: i16, new: i16) -> i16
+pub fn interpolate(t: &[i16; 512], i: u8, oldest: i16, older: i16, old: i16, new: i16) -> i16
+    requires { ⌜ now t ≡ factors ⌝ }
     ensures { λ r. ⌜ r ≡ interpolatedOf i oldest older old new ⌝ }
 {
     let k = i as usize;
-    let sum = tap(0xFF - k, oldest) + tap(0x1FF - k, older) + tap(0x100 + k, old) + tap(k, new);
+    let sum = tap(t, 0xFF - k, oldest)
+        + tap(t, 0x1FF - k, older)
+        + tap(t, 0x100 + k, old)
+        + tap(t, k, new);
     sum as i16
 }

@@ -3,7 +3,7 @@
 use mathlib.Core.Path.{_≡_, refl, ap, ap₂, sym, subst, _∙_}
 use mathlib.Core.Bool.{Bool, true, false, _||_, _&&_, not, or-false, or-assoc}
 use mathlib.Core.List.{List, [], _∷_}
-use Prim.Native.Nat.{ℕ, _+_, _*_, _≤_, _<_}
+use Prim.Native.Nat.{ℕ, zero, suc, _+_, _*_, _≤_, _<_}
 use native.Mathlib.Numerals.{add-one}
 use native.Mathlib.Omega.{arith}
 use lib.Dec.{eqb}
@@ -178,6 +178,11 @@ pub always-branch : {A : Type 0} {P : A → Type 0} (b : Bool) {p q : Prog A} �
 unfolding branch
 always-branch true f g = f refl
 always-branch false f g = g refl
+
+pub always-repeat : {S : Type 0} {P : S → Type 0} (f : ℕ → S → Prog S) → ((n : ℕ) (s : S) → P s → Always P (f n s)) → (n : ℕ) (s : S) → P s → Always P (repeat f n s)
+unfolding repeat
+always-repeat f g zero s p = ends p
+always-repeat f g (suc n) s p = always-bind (always-repeat f g n s p) (λ t q. g n t q)
 
 -- ---- programs that write nothing: RAM and marks stay as they are
 

@@ -10,13 +10,14 @@ use Rattle.fixed.specs.Bits.{field}
 use Rattle.stereo.specs.declared.Stereo.{Stereo}
 use Rattle.stereo.specs.Float.{stereoOf}
 use Rattle.soundram.specs.Program.{done, bind}
-use Rattle.soundram.specs.Calls.{Reply, Doing, still, works, Machine}
+use Rattle.soundram.specs.Calls.{Reply, Doing, still, works, Machine, Outcome, outcome}
 use Rattle.chip.specs.declared.State.{State}
 use Rattle.chip.specs.State.{withTransfer, freshOf, sizeOk, stateOk, watchOf, watchedOf}
 use Rattle.chip.specs.Registers.{listed, readOnly, notWritten, notRead, writeOf, readOf}
 use Rattle.spu.specs.declared.Changed.{Changed}
-use Rattle.spu.specs.Tick.{Pair, tickOf}
-use Rattle.spu.specs.Transfer.{inwardOf, outwardOf}
+use Rattle.transfer.specs.Transfer.{inwardOf, outwardOf}
+use Rattle.tick.specs.declared.Pair.{Pair}
+use Rattle.tick.specs.Tick.{tickOf}
 
 -- a call with its fixed arguments; an outgoing buffer is lent with its contents. `view` is the block view, in document 01's word: a look at the
 -- sixteen bytes of one ADPCM block in the caller's own RAM
@@ -113,7 +114,7 @@ acceptedOf (write offset v) s = still (written 0) (writeOf s offset v)
 acceptedOf (read offset) s = still (value 0 (readOf s offset)) s
 acceptedOf (transferIn vs) s = works (bind (inwardOf (s .choices .size) (s .transfer) vs) (λ a. done (reply (moved 0 (length vs)) (withTransfer s a))))
 acceptedOf (transferOut b) s =
-    works (bind (outwardOf (s .choices .size) (s .transfer) (length b)) (λ m. done (reply (movedOut 0 (length b) (m .values)) (withTransfer s (m .address)))))
+    works (bind (outwardOf (s .choices .size) (s .transfer) b) (λ o. done (reply (movedOut 0 (length b) (o .buffer)) (withTransfer s (o .address)))))
 acceptedOf (tick left right) s = works (bind (tickOf s left right) (λ r. done (reply (pair 0 (r .answer)) (r .state))))
 acceptedOf (tickFloats left right) s = works (bind (tickOf s left right) (λ r. done (reply (floats 0 (stereoOf (r .answer .left) (r .answer .right))) (r .state))))
 acceptedOf reset s = still (made 0) (freshOf (s .choices .size))
@@ -128,6 +129,19 @@ pub record Gives (c : Call) (s : State) (a : Answer) (t : State) : Type 0 where
 
 abbrev pub chip : Machine Call Answer State
 chip = record { step = stepOf; watch = watchOf; watched = watchedOf }
+
+-- all that a call gives and leaves, of what it is lent
+unfoldable pub outcomeOf : Call → State → List ℕ → List ℕ → Outcome Answer State
+outcomeOf c s ram marks = outcome chip (stepOf c s (length ram) (length marks)) s ram marks
+
+-- a call that is lent RAM and marks gives this answer and these reports, and leaves this state, RAM and marks
+pub record Leaves (c : Call) (s : State) (ram marks : List ℕ) (a : Answer) (irq doubt : Bool) (t : State) (ram′ marks′ : List ℕ) : Type 0 where
+  pub answer : a ≡ outcomeOf c s ram marks .answer
+  pub irq : irq ≡ outcomeOf c s ram marks .irq
+  pub doubt : doubt ≡ outcomeOf c s ram marks .doubt
+  pub state : t ≡ outcomeOf c s ram marks .state
+  pub ram : ram′ ≡ outcomeOf c s ram marks .ram
+  pub marks : marks′ ≡ outcomeOf c s ram marks .marks
 
 -- ---- "Making a state for another L gives 1 and the fresh state for 65,536."
 

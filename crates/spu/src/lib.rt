@@ -1,7 +1,14 @@
 // The calls on a state.
 ghost use mathlib.Core.Path.{_≡_};
-ghost use Rattle.spu.specs.Step.{written, value as valued, made, write as writing, read as reading, reset as resetting, numberOf, Gives, makeOf};
+ghost use mathlib.Core.Bool.{cond};
+ghost use Prim.Native.Nat.{_+_};
+ghost use lib.Dec.{eqb};
+ghost use lib.ListN.{length, take, drop};
+ghost use Rattle.chip.specs.State.{watchOf, watchedOf};
+ghost use Rattle.spu.specs.Step.{written, value as valued, moved, movedOut, pair, floats, made, write as writing, read as reading, transferIn, transferOut, tick as ticking, tickFloats, reset as resetting, view, numberOf, Gives, Leaves, makeOf};
 use chip::State;
+use soundram::Watch;
+use stereo::Stereo;
 
 // The number that a call gives, 0 where it is not refused, and the state after it.
 pub struct Changed {
@@ -94,4 +101,207 @@ pub fn read(s: State, offset: u32) -> Reading
         return Reading { number, value };
     }
     Reading { number, value: 0 }
+}
+
+// What a tick gives: the pair; whether it raised the interrupt, and the doubt.
+pub struct Ticked {
+    pub number: u8,
+    pub left: i16,
+    pub right: i16,
+    pub irq: bool,
+    pub doubt: bool,
+    pub state: State,
+}
+
+pub struct TickedFloats {
+    pub number: u8,
+    pub pair: Stereo,
+    pub irq: bool,
+    pub doubt: bool,
+    pub state: State,
+}
+
+// What a transfer gives: how many halfwords moved.
+pub struct Transferred {
+    pub number: u8,
+    pub count: u32,
+    pub irq: bool,
+    pub doubt: bool,
+    pub state: State,
+}
+
+// 1 or 2, or 0 where neither applies, of the lengths of what is lent.
+fn lent_number(s: State, ram: usize, marks: usize) -> u8 {
+    let size = s.choices.size as usize;
+    if (ram != size) | (marks != size / 16) {
+        return 1;
+    }
+    if !chip::ok(s) {
+        return 2;
+    }
+    0
+}
+
+// One tick, of the raw CD pair.
+pub fn tick(s: State, ram: &mut [u8], marks: &mut [u8], left: i16, right: i16) -> Ticked
+    ensures { λ r. ⌜ Leaves (ticking left right) s (now (ram .entry)) (now (marks .entry)) (pair (r .number) (record { left = r .left; right = r .right })) (r .irq) (r .doubt) (r .state) (now (ram .exit)) (now (marks .exit)) ⌝ }
+{
+    let number = lent_number(s, ram.len(), marks.len());
+    if number != 0 {
+        let state = s;
+        return Ticked {
+            number,
+            left: 0,
+            right: 0,
+            irq: false,
+            doubt: false,
+            state,
+        };
+    }
+    let w = chip::watch(s);
+    let t = tick::run(s, ram, marks, left, right, w);
+    let state = chip::watched(t.state, t.watch);
+    Ticked {
+        number,
+        left: t.pair.left,
+        right: t.pair.right,
+        irq: t.watch.latch & !w.latch,
+        doubt: t.watch.doubt & !w.doubt,
+        state,
+    }
+}
+
+// The same, with the pair as floats.
+pub fn tick_floats(
+    s: State,
+    ram: &mut [u8],
+    marks: &mut [u8],
+    left: i16,
+    right: i16,
+) -> TickedFloats
+    ensures { λ r. ⌜ Leaves (tickFloats left right) s (now (ram .entry)) (now (marks .entry)) (floats (r .number) (r .pair)) (r .irq) (r .doubt) (r .state) (now (ram .exit)) (now (marks .exit)) ⌝ }
+{
+    let t = tick(s, ram, marks, left, right);
+    let pair = stereo::to_floats(t.left, t.right);
+    let state = t.state;
+    TickedFloats {
+        number: t.number,
+        pair,
+        irq: t.irq,
+        doubt: t.doubt,
+        state,
+    }
+}
+
+fn bad_count(n: usize) -> bool {
+    (n == 0) | (32 < n)
+}
+
+fn mode(s: State) -> u16 {
+    s.control.applied / 16 % 4
+}
+
+fn in_number(s: State, ram: usize, marks: usize, count: usize) -> u8 {
+    let number = lent_number(s, ram, marks);
+    if number != 0 {
+        return number;
+    }
+    let m = mode(s);
+    if !((m == 1) | (m == 2)) {
+        return 6;
+    }
+    if bad_count(count) {
+        return 7;
+    }
+    0
+}
+
+fn out_number(s: State, ram: usize, marks: usize, count: usize) -> u8 {
+    let number = lent_number(s, ram, marks);
+    if number != 0 {
+        return number;
+    }
+    if mode(s) != 3 {
+        return 6;
+    }
+    if bad_count(count) {
+        return 7;
+    }
+    0
+}
+
+fn refused(number: u8, s: State) -> Transferred {
+    let state = s;
+    Transferred {
+        number,
+        count: 0,
+        irq: false,
+        doubt: false,
+        state,
+    }
+}
+
+fn transferred(s: State, count: u32, w: Watch, m: transfer::Moved) -> Transferred {
+    let address = m.address;
+    let mut t = s;
+    t.transfer = address;
+    let state = chip::watched(t, m.watch);
+    Transferred {
+        number: 0,
+        count,
+        irq: m.watch.latch & !w.latch,
+        doubt: m.watch.doubt & !w.doubt,
+        state,
+    }
+}
+
+// Halfwords into sound RAM.
+pub fn transfer_in(s: State, ram: &mut [u8], marks: &mut [u8], values: &[u16]) -> Transferred
+    ensures { λ r. ⌜ Leaves (transferIn (now (values .entry))) s (now (ram .entry)) (now (marks .entry)) (moved (r .number) (r .count)) (r .irq) (r .doubt) (r .state) (now (ram .exit)) (now (marks .exit)) ⌝ }
+{
+    let number = in_number(s, ram.len(), marks.len(), values.len());
+    if number != 0 {
+        return refused(number, s);
+    }
+    let w = chip::watch(s);
+    let m = transfer::inward(ram, marks, s.choices.size, s.transfer, values, w);
+    transferred(s, values.len() as u32, w, m)
+}
+
+// Halfwords out of sound RAM, as many as the buffer holds.
+pub fn transfer_out(s: State, ram: &[u8], marks: &[u8], out: &mut [u16]) -> Transferred
+    ensures { λ r. ⌜ Leaves (transferOut (now (out .entry))) s (now (ram .entry)) (now (marks .entry)) (movedOut (r .number) (r .count) (now (out .exit))) (r .irq) (r .doubt) (r .state) (now (ram .entry)) (now (marks .entry)) ⌝ }
+{
+    let number = out_number(s, ram.len(), marks.len(), out.len());
+    if number != 0 {
+        return refused(number, s);
+    }
+    let w = chip::watch(s);
+    let m = transfer::outward(ram, marks, s.choices.size, s.transfer, out, w);
+    transferred(s, out.len() as u32, w, m)
+}
+
+// The number that the block view gives at an address.
+pub fn view_number(s: State, ram: &[u8], address: u32) -> u8 {
+    let size = s.choices.size;
+    if ram.len() != size as usize {
+        return 1;
+    }
+    if !chip::ok(s) {
+        return 2;
+    }
+    if (address % 8 != 0) | (size - 16 < address) {
+        return 8;
+    }
+    0
+}
+
+// The sixteen bytes of the block there, in the caller's own RAM; none where the view is refused.
+pub fn block_view(s: State, ram: &[u8], address: u32) -> &[u8] {
+    let number = view_number(s, ram, address);
+    if number != 0 {
+        return &ram[0..0];
+    }
+    let a = address as usize;
+    &ram[a..a + 16]
 }

@@ -3,6 +3,7 @@ ghost use mathlib.Core.Path.{_≡_};
 ghost use mathlib.Core.List.{_++_};
 ghost use Prim.Native.Nat.{_≤_, _<_};
 ghost use lib.ListN.{drop};
+ghost use Rattle.gauss.specs.Gauss.{table as factors};
 ghost use Rattle.soundram.specs.Address.{Lent};
 ghost use Rattle.soundram.specs.Program.{Does, memOf};
 ghost use Rattle.voice.specs.Range.{InRange};
@@ -275,8 +276,8 @@ fn sample_at(v: Voice, k: usize) -> i16
 }
 
 // What the voice gives before its envelope: its samples, interpolated, or the noise.
-fn sound(s: Settings, level: u16, v: Voice) -> i16
-    requires { ⌜ v .position .index ≤ 27 ⌝ }
+fn sound(table: &[i16; 512], s: Settings, level: u16, v: Voice) -> i16
+    requires { ⌜ (now table ≡ factors) × (v .position .index ≤ 27) ⌝ }
     ensures { λ r. ⌜ r ≡ soundOf s level v ⌝ }
 {
     if s.noise {
@@ -284,6 +285,7 @@ fn sound(s: Settings, level: u16, v: Voice) -> i16
     }
     let i = gauss::index(v.position.counter);
     gauss::interpolate(
+        table,
         i,
         sample_at(v, 0),
         sample_at(v, 1),
@@ -292,11 +294,11 @@ fn sound(s: Settings, level: u16, v: Voice) -> i16
     )
 }
 
-fn amplitude(s: Settings, level: u16, v: Voice) -> i16
-    requires { ⌜ (v .position .index ≤ 27) × (v .envelope .level ≤ 0x7FFF) ⌝ }
+fn amplitude(table: &[i16; 512], s: Settings, level: u16, v: Voice) -> i16
+    requires { ⌜ (now table ≡ factors) × (v .position .index ≤ 27) × (v .envelope .level ≤ 0x7FFF) ⌝ }
     ensures { λ r. ⌜ r ≡ amplitudeOf s level v ⌝ }
 {
-    let x = sound(s, level, v) as i32;
+    let x = sound(table, s, level, v) as i32;
     fixed::product(x, v.envelope.level as i16) as i16
 }
 
@@ -374,8 +376,9 @@ fn is_idle(phase: Phase) -> bool
     }
 }
 
-// One tick of voice n. Below is the amplitude of the voice below it in this tick, level the noise's.
+// One tick of voice n, with the table of interpolation. Below is the amplitude of the voice below it in this tick, level the noise's.
 pub fn tick(
+    table: &[i16; 512],
     v: Voice,
     n: u8,
     size: u32,
@@ -386,7 +389,7 @@ pub fn tick(
     marks: &[u8],
     w: Watch,
 ) -> VoiceTick
-    requires { ⌜ Lent size (now ram) (now marks) × InRange size v ⌝ }
+    requires { ⌜ (now table ≡ factors) × Lent size (now ram) (now marks) × InRange size v ⌝ }
     ensures { λ r. ⌜ Does (tickOf (Reader.Voice n) size s below level v) (memOf (now (ram .entry)) (now (marks .entry)) w) (record { voice = r .voice; amplitude = r .amplitude }) (memOf (now (ram .entry)) (now (marks .entry)) (r .watch)) ⌝ }
 {
     let e = v.envelope;
@@ -400,7 +403,7 @@ pub fn tick(
     }
     let first = ready(v, Reader::Voice(n), size, ram, marks, w);
     let x = first.voice;
-    let a = amplitude(s, level, x);
+    let a = amplitude(table, s, level, x);
     let last = moves(x, Reader::Voice(n), size, s, below, ram, marks, first.watch);
     let voice = last.voice;
     let watch = last.watch;

@@ -1,6 +1,8 @@
 // Plays blocks through one voice and writes, for each tick, its amplitude, level, end flag and the doubt. The expected output is that of the
 // reference, reference/voice_play.py, which lists the same blocks and plays.
+ghost use mathlib.Core.Path.{_≡_};
 ghost use Prim.Native.Nat.{_<_};
+ghost use Rattle.gauss.specs.Gauss.{table as factors};
 ghost use Rattle.soundram.specs.Address.{Lent};
 ghost use Rattle.voice.specs.Range.{InRange};
 use libc::STDOUT_FILENO;
@@ -229,11 +231,19 @@ fn keyed(v: Voice, s: Settings, k: usize, t: u32) -> Voice
 }
 
 // Tick t, and its line.
-fn tick(v: Voice, w: Watch, s: Settings, t: u32, ram: &[u8], marks: &[u8]) -> Played
-    requires { ⌜ Lent 0x10000 (now ram) (now marks) × InRange 0x10000 v ⌝ }
+fn tick(
+    table: &[i16; 512],
+    v: Voice,
+    w: Watch,
+    s: Settings,
+    t: u32,
+    ram: &[u8],
+    marks: &[u8],
+) -> Played
+    requires { ⌜ (now table ≡ factors) × Lent 0x10000 (now ram) (now marks) × InRange 0x10000 v ⌝ }
     ensures { λ r. ⌜ InRange 0x10000 (r .voice) ⌝ }
 {
-    let r = voice::tick(v, 0, SIZE, s, below(t), noise(t), ram, marks, w);
+    let r = voice::tick(table, v, 0, SIZE, s, below(t), noise(t), ram, marks, w);
     let voice = r.voice;
     let watch = r.watch;
     print_tick(r.amplitude, voice.envelope.level, voice.ended, watch.doubt);
@@ -241,30 +251,30 @@ fn tick(v: Voice, w: Watch, s: Settings, t: u32, ram: &[u8], marks: &[u8]) -> Pl
 }
 
 // Tick t of play k.
-fn turn(p: Played, k: usize, t: u32, ram: &[u8], marks: &[u8]) -> Played
-    requires { ⌜ Lent 0x10000 (now ram) (now marks) × InRange 0x10000 (p .voice) × (k < 14) ⌝ }
+fn turn(table: &[i16; 512], p: Played, k: usize, t: u32, ram: &[u8], marks: &[u8]) -> Played
+    requires { ⌜ (now table ≡ factors) × Lent 0x10000 (now ram) (now marks) × InRange 0x10000 (p .voice) × (k < 14) ⌝ }
     ensures { λ r. ⌜ InRange 0x10000 (r .voice) ⌝ }
 {
     let s = settings(k);
-    tick(keyed(p.voice, s, k, t), p.watch, s, t, ram, marks)
+    tick(table, keyed(p.voice, s, k, t), p.watch, s, t, ram, marks)
 }
 
-fn play(ram: &[u8], marks: &[u8], k: usize)
-    requires { ⌜ Lent 0x10000 (now ram) (now marks) × (k < 14) ⌝ }
+fn play(table: &[i16; 512], ram: &[u8], marks: &[u8], k: usize)
+    requires { ⌜ (now table ≡ factors) × Lent 0x10000 (now ram) (now marks) × (k < 14) ⌝ }
 {
     print_name(k);
     let mut p = start(k);
     let ticks = ticks_of(k);
     for t in 0..ticks {
-        p = turn(p, k, t, ram, marks);
+        p = turn(table, p, k, t, ram, marks);
     }
 }
 
-fn plays(ram: &[u8], marks: &[u8])
-    requires { ⌜ Lent 0x10000 (now ram) (now marks) ⌝ }
+fn plays(table: &[i16; 512], ram: &[u8], marks: &[u8])
+    requires { ⌜ (now table ≡ factors) × Lent 0x10000 (now ram) (now marks) ⌝ }
 {
     for k in 0..14usize {
-        play(ram, marks, k);
+        play(table, ram, marks, k);
     }
 }
 
@@ -272,5 +282,6 @@ fn main() {
     let mut ram = [0u8; 65536];
     let mut marks = [0u8; 4096];
     put_blocks(&mut ram, &mut marks);
-    plays(&ram, &marks);
+    let table = gauss::table();
+    plays(&table, &ram, &marks);
 }

@@ -2,6 +2,7 @@
 ghost use mathlib.Core.Path.{_≡_};
 ghost use Prim.Native.Nat.{_+_, _<_};
 ghost use Rattle.fixed.specs.Range.{In};
+ghost use Rattle.gauss.specs.Gauss.{table as factors};
 ghost use Rattle.soundram.specs.Address.{Lent};
 ghost use Rattle.soundram.specs.Program.{Does, memOf, repeat};
 ghost use Rattle.voice.specs.Range.{InRange};
@@ -132,6 +133,7 @@ fn add(regs: &[u16; 256], n: usize, a: i16, s: Sums) -> Sums
 
 // One voice's turn, of the noise's level.
 fn tick_one(
+    table: &[i16; 512],
     regs: &[u16; 256],
     n: usize,
     size: u32,
@@ -142,10 +144,11 @@ fn tick_one(
     marks: &[u8],
     w: Watch,
 ) -> Turn
-    requires { ⌜ (n < 24) × Lent size (now ram) (now marks) × InRange size v × SumsIn n s ⌝ }
+    requires { ⌜ (now table ≡ factors) × (n < 24) × Lent size (now ram) (now marks) × InRange size v × SumsIn n s ⌝ }
     ensures { λ r. ⌜ Does (turnOf size (now (regs .entry)) level n v s) (memOf (now (ram .entry)) (now (marks .entry)) w) (record { voice = r .voice; sums = r .sums }) (memOf (now (ram .entry)) (now (marks .entry)) (r .watch)) × SumsIn (n + 1) (r .sums) ⌝ }
 {
     let t = voice::tick(
+        table,
         v,
         n as u8,
         size,
@@ -163,7 +166,8 @@ fn tick_one(
 }
 
 // All voices in order.
-pub fn tick(
+fn in_order(
+    table: &[i16; 512],
     regs: &[u16; 256],
     size: u32,
     level: u16,
@@ -172,7 +176,7 @@ pub fn tick(
     marks: &[u8],
     w: Watch,
 ) -> Voiced
-    requires { ⌜ Lent size (now ram) (now marks) × AllIn size v ⌝ }
+    requires { ⌜ (now table ≡ factors) × Lent size (now ram) (now marks) × AllIn size v ⌝ }
     ensures { λ r. ⌜ Does (repeat (voiceAt size (now (regs .entry)) level) 24 (record { voices = v; sums = noSums })) (memOf (now (ram .entry)) (now (marks .entry)) w) (record { voices = r .voices; sums = r .sums }) (memOf (now (ram .entry)) (now (marks .entry)) (r .watch)) ⌝ }
 {
     let mut voices = v;
@@ -185,7 +189,7 @@ pub fn tick(
     let mut watch = w;
     for n in 0..24usize {
         let x = voices[n];
-        let t = tick_one(regs, n, size, level, x, sums, ram, marks, watch);
+        let t = tick_one(table, regs, n, size, level, x, sums, ram, marks, watch);
         let next = t.voice;
         let sum = t.sums;
         let seen = t.watch;
@@ -198,4 +202,21 @@ pub fn tick(
         sums,
         watch,
     }
+}
+
+// One tick of all voices.
+pub fn tick(
+    regs: &[u16; 256],
+    size: u32,
+    level: u16,
+    v: [Voice; 24],
+    ram: &[u8],
+    marks: &[u8],
+    w: Watch,
+) -> Voiced
+    requires { ⌜ Lent size (now ram) (now marks) × AllIn size v ⌝ }
+    ensures { λ r. ⌜ Does (repeat (voiceAt size (now (regs .entry)) level) 24 (record { voices = v; sums = noSums })) (memOf (now (ram .entry)) (now (marks .entry)) w) (record { voices = r .voices; sums = r .sums }) (memOf (now (ram .entry)) (now (marks .entry)) (r .watch)) ⌝ }
+{
+    let table = gauss::table();
+    in_order(&table, regs, size, level, v, ram, marks, w)
 }

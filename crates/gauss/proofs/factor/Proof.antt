@@ -1,19 +1,24 @@
 use borrow.Author.Needs.{needs}
-use mir.Syntax.{w32}
-use Rattle.fixed.proofs.Table.{entry}
-use Rattle.gauss.specs.Gauss.{table, factorAt}
+use mir.Syntax.{w16, w32}
+use Rattle.fixed.proofs.Number.{Num, res, hold, need, is, range}
+use Rattle.gauss.proofs.Rule.{factor-in, lent-at}
 use Rattle.gauss.proofs.factor.Statement.{statement}
 use Rattle.gauss.proofs.factor.Tie as tie
+
+abbrev entry : tie.After-result → Num
+entry c = let s = c .before in res w16 (lent-at (s .args .i) (s .pre .0)) (factor-in (s .args .i) (s .pre .1)) tt
 
 mul-result : tie.Need-mul-result
 mul-result c = search needs
 
-array-copy-out-result : tie.Need-array-copy-out-result
-array-copy-out-result c = search needs
+element-copy-out-result : tie.Need-element-copy-out-result
+element-copy-out-result c = search needs
+
+cast-result : tie.Need-cast-result
+cast-result c = need (entry c) tt
 
 returns : tie.Need-returns
-unfolding table factorAt
-returns c = entry factorAt 1 0x59B3 table 512 tt w32 (c .before .args .i) (search needs) tt
+returns c = let r = hold w32 (entry c) tt in (is r, range r)
 
 pub factor-spec : {M : Type 1} → statement M
-factor-spec = tie.close (tie.spec mul-result array-copy-out-result returns)
+factor-spec = tie.close (tie.spec mul-result element-copy-out-result cast-result returns)

@@ -9,7 +9,7 @@ abbrev x : tie.After-sound → Num
 x c = said (ok w16 (c .sound .result) (c .sound .ok)) (c .sound .ensures)
 
 abbrev a : tie.After-product → Num
-a c = prod (hold w32 (x (c .before .before)) tt) (nat w16 {n = c .before .before .before .args .v .envelope .level} 0x7FFF (c .before .before .before .pre .1) tt) (c .product .ensures) tt
+a c = prod (hold w32 (x (c .before .before)) tt) (nat w16 {n = c .before .before .before .args .v .envelope .level} 0x7FFF (c .before .before .before .pre .2) tt) (c .product .ensures) tt
 
 sound-requires : tie.Need-sound-requires
 sound-requires c κs = search needs

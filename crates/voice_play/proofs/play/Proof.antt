@@ -5,10 +5,10 @@ use Rattle.voice_play.proofs.play.Statement.{statement}
 use Rattle.voice_play.proofs.play.Tie as tie
 
 abbrev Inv-loop : tie.InvT-loop
-Inv-loop ram marks k p₀ ticks t₀ p t = (t ≤ ticks) × InRange 0x10000 (p .voice)
+Inv-loop table ram marks k p₀ ticks t₀ p t = (t ≤ ticks) × InRange 0x10000 (p .voice)
 
 abbrev μ-loop : tie.MeasureT-loop
-μ-loop ram marks k p₀ ticks t₀ p t = ticks - t
+μ-loop table ram marks k p₀ ticks t₀ p t = ticks - t
 
 print-name-requires : tie.Need-print-name-requires Inv-loop μ-loop
 print-name-requires c κs = search needs

@@ -4,10 +4,10 @@ use Rattle.voice_play.proofs.plays.Statement.{statement}
 use Rattle.voice_play.proofs.plays.Tie as tie
 
 abbrev Inv-loop : tie.InvT-loop
-Inv-loop ram marks k₀ k = k ≤ 14
+Inv-loop table ram marks k₀ k = k ≤ 14
 
 abbrev μ-loop : tie.MeasureT-loop
-μ-loop ram marks k₀ k = 14 - k
+μ-loop table ram marks k₀ k = 14 - k
 
 loop-holds : tie.Need-loop-holds Inv-loop μ-loop
 loop-holds c = search needs

@@ -1,5 +1,5 @@
 -- One tick, in document 01's order: control, noise, voices, mix, capture, reverb, tick number. Assumes nothing.
-use mathlib.Core.Bool.{Bool, cond, _&&_, not}
+use mathlib.Core.Bool.{Bool, true, false, cond, _&&_, not}
 use mathlib.Core.List.{List}
 use Prim.Native.Nat.{ℕ, _+_, _/_, _%_, _^_}
 use lib.Dec.{eqb}
@@ -16,15 +16,12 @@ use Rattle.voices.specs.declared.Captured.{Captured}
 use Rattle.voices.specs.Voices.{noSums, voiceAt}
 use Rattle.reverb.specs.declared.Area.{Area}
 use Rattle.reverb.specs.declared.Turning.{Turning}
-use Rattle.reverb.specs.Reverb.{turnOf}
+use Rattle.reverb.specs.Reverb.{sideOf, turnOf}
+use Rattle.chip.specs.declared.Held.{Held}
 use Rattle.chip.specs.declared.Reverb.{Reverb}
 use Rattle.chip.specs.declared.State.{State}
-use Rattle.chip.specs.State.{baseOf}
-
--- the pair that a tick gives
-pub record Pair : Type 0 where
-  pub left : ℤ
-  pub right : ℤ
+use Rattle.chip.specs.State.{baseAt}
+use Rattle.tick.specs.declared.Pair.{Pair}
 
 -- ---- mix
 
@@ -39,16 +36,16 @@ mixOf regs total held cd main =
     let heard = cond (bit 14 (registerAt regs 0x1AA)) (saturated total +ℤ held) (pos 0) in
     saturated (productOf (saturated (heard +ℤ cd)) (volumeOf (registerAt regs main)))
 
-unfoldable pub pairOf : State → Sums → ℤ → ℤ → Pair
-pairOf s sums left right =
+unfoldable pub pairOf : List ℕ → Held → Sums → ℤ → ℤ → Pair
+pairOf regs held sums left right =
     record {
-      left = mixOf (s .regs) (sums .dry .left) (s .reverb .held .left) (cdOf (s .regs) 0x1B0 left) 0x180;
-      right = mixOf (s .regs) (sums .dry .right) (s .reverb .held .right) (cdOf (s .regs) 0x1B2 right) 0x182;
+      left = mixOf regs (sums .dry .left) (held .left) (cdOf regs 0x1B0 left) 0x180;
+      right = mixOf regs (sums .dry .right) (held .right) (cdOf regs 0x1B2 right) 0x182;
     }
 
 -- ---- capture: "Raw CD left, right, amplitudes of voices 1 and 3 go to 000h, 400h, 800h, C00h plus the place; the place moves 2, from 3FEh to 0."
 
-abbrev captureAt : ℕ → ℕ → ℤ → Prog (Unit {0})
+abbrev pub captureAt : ℕ → ℕ → ℤ → Prog (Unit {0})
 captureAt area place x = put ((area + place) / 2) (bitsOf 16 x)
 
 unfoldable pub captureOf : ℕ → ℤ → ℤ → Captured → Prog (Unit {0})
@@ -66,7 +63,7 @@ captureNext place = (place + 2) % 0x400
 unfoldable pub turningOf : List ℕ → Bool → Turning
 turningOf regs right =
     let on = bit 7 (registerAt regs 0x1AA) in
-    record { right = right; counted = not (not on && eqb (registerAt regs (0x184 + cond right 2 0)) 0); writes = on }
+    record { right = right; counted = not (not on && eqb (registerAt regs (0x184 + sideOf right)) 0); writes = on }
 
 -- "input is the saturated sum of EON voices' sides and, if bits 0 and 2, CD after its volume"
 unfoldable pub inputOf : List ℕ → ℤ → ℤ → ℤ
@@ -76,24 +73,26 @@ inputOf regs wet cd = saturated (wet +ℤ cond (bit 2 (registerAt regs 0x1AA)) c
 unfoldable pub placeAfter : ℕ → ℕ → Bool → ℕ → ℕ
 placeAfter size base right place = cond right (cond (eqb (place + 2) size) base (place + 2)) place
 
-unfoldable pub reverbAfter : State → ℤ → Reverb
-reverbAfter s out =
-    let r = s .reverb in
+unfoldable pub reverbAfter : ℕ → ℕ → Reverb → ℤ → Reverb
+reverbAfter size base r out =
     record {
-      place = record { 0 = placeAfter (s .choices .size) (baseOf s .0) (r .right) (r .place .0) };
+      place = record { 0 = placeAfter size base (r .right) (r .place .0) };
       right = not (r .right);
       held = record { left = cond (r .right) (r .held .left) out; right = cond (r .right) out (r .held .right) };
     }
 
-abbrev pub areaOf : State → Area
-areaOf s = record { size = s .choices .size; base = baseOf s .0; place = s .reverb .place .0 }
+abbrev pub areaOf : ℕ → ℕ → Reverb → Area
+areaOf size base r = record { size = size; base = base; place = r .place .0 }
 
-unfoldable pub reverbOf : State → Sums → ℤ → ℤ → Prog Reverb
-reverbOf s sums left right =
-    let r = s .reverb .right in
-    let cd = cond r (cdOf (s .regs) 0x1B2 right) (cdOf (s .regs) 0x1B0 left) in
-    let wet = cond r (sums .wet .right) (sums .wet .left) in
-    bind (turnOf (s .regs) (areaOf s) (turningOf (s .regs) r) (inputOf (s .regs) wet cd)) (λ out. done (reverbAfter s out))
+-- of the turn's side: what enters
+unfoldable pub enteringOf : List ℕ → Bool → Sums → ℤ → ℤ → ℤ
+enteringOf regs false sums left right = inputOf regs (sums .wet .left) (cdOf regs 0x1B0 left)
+enteringOf regs true sums left right = inputOf regs (sums .wet .right) (cdOf regs 0x1B2 right)
+
+unfoldable pub reverbOf : List ℕ → ℕ → Reverb → Sums → ℤ → ℤ → Prog Reverb
+reverbOf regs size r sums left right =
+    let base = baseAt size regs .0 in
+    bind (turnOf regs (areaOf size base r) (turningOf regs (r .right)) (enteringOf regs (r .right) sums left right)) (λ out. done (reverbAfter size base r out))
 
 -- ---- the whole tick, of the raw CD pair
 
@@ -103,9 +102,9 @@ tickOf s left right =
     let noise = tickedOf (s .noise) spucnt in
     bind (repeat (voiceAt (s .choices .size) (s .regs) (noise .level)) 24 (record { voices = s .voices; sums = noSums })) (λ b.
     bind (captureOf (s .capture) left right (b .sums .captured)) (λ _.
-    bind (reverbOf s (b .sums) left right) (λ r.
+    bind (reverbOf (s .regs) (s .choices .size) (s .reverb) (b .sums) left right) (λ r.
     done (record {
-      answer = pairOf s (b .sums) left right;
+      answer = pairOf (s .regs) (s .reverb .held) (b .sums) left right;
       state =
           record {
             choices = s .choices;

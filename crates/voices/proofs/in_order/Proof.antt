@@ -8,20 +8,20 @@ use Rattle.soundram.proofs.Programs.{repeat-none, repeat-more, repeat-end}
 use Rattle.voices.specs.Voices.{SumsIn, voiceAt, AllIn, noSums}
 use Rattle.voices.proofs.Shares.{none-in}
 use Rattle.voices.proofs.Turns.{turn-range, voice-does, all-set}
-use Rattle.voices.proofs.tick.Statement.{statement}
-use Rattle.voices.proofs.tick.Tie as tie
+use Rattle.voices.proofs.in_order.Statement.{statement}
+use Rattle.voices.proofs.in_order.Tie as tie
 
 abbrev Inv-loop : tie.InvT-loop
-Inv-loop regs size level ram marks voices₀ sums₀ watch₀ n₀ voices sums watch n =
+Inv-loop table regs size level ram marks voices₀ sums₀ watch₀ n₀ voices sums watch n =
     (n ≤ 24) × (length voices ≡ 24) × AllIn size voices × SumsIn n sums
     × Does (repeat (voiceAt size regs level) n (record { voices = voices₀; sums = sums₀ })) (memOf ram marks watch₀) (record { voices = voices; sums = sums }) (memOf ram marks watch)
 
 abbrev μ-loop : tie.MeasureT-loop
-μ-loop regs size level ram marks voices₀ sums₀ watch₀ n₀ voices sums watch n = 24 - n
+μ-loop table regs size level ram marks voices₀ sums₀ watch₀ n₀ voices sums watch n = 24 - n
 
 loop-holds : tie.Need-loop-holds Inv-loop μ-loop
 unfolding noSums
-loop-holds c = (omega arith, search needs, c .before .before .pre .1, none-in, repeat-none _ _ _)
+loop-holds c = (omega arith, search needs, c .before .before .pre .2, none-in, repeat-none _ _ _)
 
 mul-x : tie.Need-mul-x Inv-loop μ-loop
 mul-x c = search needs
@@ -33,7 +33,8 @@ tick-one-requires : tie.Need-tick-one-requires Inv-loop μ-loop
 tick-one-requires c κs =
     let v = c .before .before .loop .inv in
     let h = c .before .loop-test .taken in
-    (omega arith, c .before .before .before .before .before .pre .0, v .2 .each _ (omega arith), v .3)
+    let p = c .before .before .before .before .before .pre in
+    (p .0, omega arith, p .1, v .2 .each _ (omega arith), v .3)
 
 mul-voices : tie.Need-mul-voices Inv-loop μ-loop
 mul-voices c = search needs
@@ -57,7 +58,7 @@ loop-again c =
     let d = t .tick-one .ensures in (
       omega arith,
       search needs,
-      all-set _ _ (v .2) (v .1) (omega arith) (turn-range _ _ _ _ _ _ (d .0) (s .pre .0 .sized) (v .2 .each _ (omega arith))),
+      all-set _ _ (v .2) (v .1) (omega arith) (turn-range _ _ _ _ _ _ (d .0) (s .pre .1 .sized) (v .2 .each _ (omega arith))),
       d .1,
       repeat-more _ _ _ _ _ (v .4) (voice-does _ _ _ _ _ _ (d .0)),
     )
@@ -66,8 +67,8 @@ returns : tie.Need-returns Inv-loop μ-loop
 unfolding noSums
 returns c = let v = c .before .loop .inv in repeat-end _ _ _ _ _ (v .4) (v .0) (omega arith)
 
-pub tick-spec : {M : Type 1} → statement M
-tick-spec =
+pub in-order-spec : {M : Type 1} → statement M
+in-order-spec =
     tie.close
     (tie.spec
     Inv-loop

@@ -1,0 +1,297 @@
+// One tick of the whole chip: control, noise, voices, mix, capture, reverb.
+ghost use mathlib.Core.Path.{_≡_};
+ghost use mathlib.Core.Bool.{cond};
+ghost use Prim.Native.Nat.{_+_, _^_, _%_, _≤_, _<_};
+ghost use lib.IntN.{pos, _+ℤ_};
+ghost use Rattle.fixed.specs.Range.{In};
+ghost use Rattle.fixed.specs.Arithmetic.{saturated};
+ghost use Rattle.fixed.specs.Bits.{bit};
+ghost use Rattle.registers.specs.Map.{registerAt};
+ghost use Rattle.soundram.specs.Address.{Lent};
+ghost use Rattle.soundram.specs.Program.{Does, memOf};
+ghost use Rattle.voices.specs.Voices.{SumsIn};
+ghost use Rattle.chip.specs.Range.{InRange, PlaceIn};
+ghost use Rattle.chip.specs.State.{baseAt};
+ghost use Rattle.tick.specs.Tick.{cdOf, mixOf, pairOf, captureOf, captureAt, turningOf, inputOf, enteringOf, placeAfter, reverbAfter, reverbOf, tickOf};
+use chip::Control;
+use chip::Held;
+use chip::Reverb;
+use chip::State;
+use reverb::Area;
+use reverb::Turning;
+use soundram::ByteAddress;
+use soundram::UnitAddress;
+use soundram::Watch;
+use voices::Captured;
+use voices::Sums;
+
+// The pair that a tick gives.
+pub struct Pair {
+    pub left: i16,
+    pub right: i16,
+}
+
+pub struct Ticked {
+    pub pair: Pair,
+    pub state: State,
+    pub watch: Watch,
+}
+
+// The reverb after its turn.
+struct Turned {
+    reverb: Reverb,
+    watch: Watch,
+}
+
+// Bit k of SPUCNT.
+fn control(regs: &[u16; 256], k: u32) -> bool
+    requires { ⌜ k < 16 ⌝ }
+    ensures { λ r. ⌜ r ≡ bit k (registerAt (now (regs .entry)) 0x1AA) ⌝ }
+{
+    (registers::at(regs, 0x1AA) >> k) % 2 == 1
+}
+
+// ---- mix
+
+// A side of the CD, after its volume.
+fn cd(regs: &[u16; 256], offset: usize, x: i16) -> i32
+    requires { ⌜ offset < 512 ⌝ }
+    ensures { λ r. ⌜ (r ≡ cdOf (now (regs .entry)) offset x) × In 0x8000 0x8000 r ⌝ }
+{
+    if control(regs, 0) {
+        let volume = fixed::to_signed(registers::at(regs, offset));
+        return fixed::product(x as i32, volume);
+    }
+    0
+}
+
+// The voices and the reverb, where SPUCNT lets them be heard.
+fn heard(on: bool, total: i32, held: i16) -> i32
+    ensures { λ r. ⌜ (r ≡ cond on (saturated total +ℤ held) (pos 0)) × In 0x10000 0xFFFE r ⌝ }
+{
+    if on {
+        return fixed::saturate(total) as i32 + held as i32;
+    }
+    0
+}
+
+fn mix(regs: &[u16; 256], total: i32, held: i16, cd: i32, main: usize) -> i16
+    requires { ⌜ In 0x8000 0x8000 cd × (main < 512) ⌝ }
+    ensures { λ r. ⌜ r ≡ mixOf (now (regs .entry)) total held cd main ⌝ }
+{
+    let sum = fixed::saturate(heard(control(regs, 14), total, held) + cd);
+    let volume = fixed::volume(registers::at(regs, main));
+    fixed::saturate(fixed::product(sum as i32, volume))
+}
+
+fn pair(regs: &[u16; 256], held: Held, sums: Sums, left: i16, right: i16) -> Pair
+    ensures { λ r. ⌜ r ≡ pairOf (now (regs .entry)) held sums left right ⌝ }
+{
+    Pair {
+        left: mix(regs, sums.dry.left, held.left, cd(regs, 0x1B0, left), 0x180),
+        right: mix(
+            regs,
+            sums.dry.right,
+            held.right,
+            cd(regs, 0x1B2, right),
+            0x182,
+        ),
+    }
+}
+
+// ---- capture
+
+fn capture_at(
+    ram: &mut [u8],
+    marks: &mut [u8],
+    size: u32,
+    area: u32,
+    place: u16,
+    x: i16,
+    w: Watch,
+) -> Watch
+    requires { ⌜ Lent size (now ram) (now marks) × (area < 0x1000) × (place < 0x400) ⌝ }
+    ensures { λ r. ⌜ Does (captureAt area place x) (memOf (now (ram .entry)) (now (marks .entry)) w) tt (memOf (now (ram .exit)) (now (marks .exit)) r) ⌝ }
+{
+    soundram::write(
+        ram,
+        marks,
+        ByteAddress(area + place as u32),
+        fixed::to_bits(x),
+        w,
+    )
+}
+
+fn capture(
+    ram: &mut [u8],
+    marks: &mut [u8],
+    size: u32,
+    place: u16,
+    left: i16,
+    right: i16,
+    c: Captured,
+    w: Watch,
+) -> Watch
+    requires { ⌜ Lent size (now ram) (now marks) × (place < 0x400) ⌝ }
+    ensures { λ r. ⌜ Does (captureOf place left right c) (memOf (now (ram .entry)) (now (marks .entry)) w) tt (memOf (now (ram .exit)) (now (marks .exit)) r) ⌝ }
+{
+    let a = capture_at(ram, marks, size, 0x000, place, left, w);
+    let b = capture_at(ram, marks, size, 0x400, place, right, a);
+    let d = capture_at(ram, marks, size, 0x800, place, c.first, b);
+    capture_at(ram, marks, size, 0xC00, place, c.third, d)
+}
+
+// ---- reverb
+
+fn turning(regs: &[u16; 256], right: bool) -> Turning
+    ensures { λ r. ⌜ r ≡ turningOf (now (regs .entry)) right ⌝ }
+{
+    let on = control(regs, 7);
+    let volume = registers::at(regs, 0x184 + reverb::side(right));
+    Turning {
+        right,
+        counted: !(!on & (volume == 0)),
+        writes: on,
+    }
+}
+
+fn input(regs: &[u16; 256], wet: i32, cd: i32) -> i16
+    requires { ⌜ In 0xC0000 0xC0000 wet × In 0x8000 0x8000 cd ⌝ }
+    ensures { λ r. ⌜ r ≡ inputOf (now (regs .entry)) wet cd ⌝ }
+{
+    if control(regs, 2) {
+        return fixed::saturate(wet + cd);
+    }
+    fixed::saturate(wet)
+}
+
+// What enters the reverb, of the turn's side.
+fn entering(regs: &[u16; 256], to_right: bool, sums: Sums, left: i16, right: i16) -> i16
+    requires { ⌜ SumsIn 24 sums ⌝ }
+    ensures { λ r. ⌜ r ≡ enteringOf (now (regs .entry)) to_right sums left right ⌝ }
+{
+    if to_right {
+        return input(regs, sums.wet.right, cd(regs, 0x1B2, right));
+    }
+    input(regs, sums.wet.left, cd(regs, 0x1B0, left))
+}
+
+fn place_after(size: u32, base: u32, right: bool, place: u32) -> u32
+    requires { ⌜ place < 0x80000 ⌝ }
+    ensures { λ r. ⌜ r ≡ placeAfter size base right place ⌝ }
+{
+    if !right {
+        return place;
+    }
+    if place + 2 == size {
+        return base;
+    }
+    place + 2
+}
+
+fn hold(right: bool, held: Held, out: i16) -> Held
+    ensures { λ r. ⌜ r ≡ record { left = cond right (held .left) out; right = cond right out (held .right) } ⌝ }
+{
+    if right {
+        return Held {
+            left: held.left,
+            right: out,
+        };
+    }
+    Held {
+        left: out,
+        right: held.right,
+    }
+}
+
+fn after(size: u32, base: u32, r: Reverb, out: i16) -> Reverb
+    requires { ⌜ r .place .0 < 0x80000 ⌝ }
+    ensures { λ a. ⌜ a ≡ reverbAfter size base r out ⌝ }
+{
+    let held = hold(r.right, r.held, out);
+    Reverb {
+        place: ByteAddress(place_after(size, base, r.right, r.place.0)),
+        right: !r.right,
+        held,
+    }
+}
+
+// The turn of this tick.
+fn turn(
+    regs: &[u16; 256],
+    size: u32,
+    r: Reverb,
+    sums: Sums,
+    left: i16,
+    right: i16,
+    ram: &mut [u8],
+    marks: &mut [u8],
+    w: Watch,
+) -> Turned
+    requires { ⌜ Lent size (now ram) (now marks) × PlaceIn size (baseAt size (now regs) .0) (r .place .0) × SumsIn 24 sums ⌝ }
+    ensures { λ a. ⌜ Does (reverbOf (now (regs .entry)) size r sums left right) (memOf (now (ram .entry)) (now (marks .entry)) w) (a .reverb) (memOf (now (ram .exit)) (now (marks .exit)) (a .watch)) ⌝ }
+{
+    let base = soundram::address_of(size, UnitAddress(registers::at(regs, 0x1A2)));
+    let area = Area {
+        size,
+        base: base.0,
+        place: r.place.0,
+    };
+    let x = entering(regs, r.right, sums, left, right);
+    let out = reverb::turn(regs, ram, marks, area, turning(regs, r.right), x, w);
+    let reverb = after(size, base.0, r, out.value);
+    let watch = out.watch;
+    Turned { reverb, watch }
+}
+
+// ---- the whole tick, of the raw CD pair
+
+pub fn run(s: State, ram: &mut [u8], marks: &mut [u8], left: i16, right: i16, w: Watch) -> Ticked
+    requires { ⌜ Lent (s .choices .size) (now ram) (now marks) × InRange s ⌝ }
+    ensures { λ r. ⌜ Does (tickOf s left right) (memOf (now (ram .entry)) (now (marks .entry)) w) (record { answer = r .pair; state = r .state }) (memOf (now (ram .exit)) (now (marks .exit)) (r .watch)) ⌝ }
+{
+    let size = s.choices.size;
+    let spucnt = registers::at(&s.regs, 0x1AA);
+    let noise = noise::tick(s.noise, spucnt);
+    let before = s.voices;
+    let v = voices::tick(&s.regs, size, noise.level, before, ram, marks, w);
+    let sums = v.sums;
+    let captured = capture(
+        ram,
+        marks,
+        size,
+        s.capture,
+        left,
+        right,
+        sums.captured,
+        v.watch,
+    );
+    let t = turn(
+        &s.regs,
+        size,
+        s.reverb,
+        sums,
+        left,
+        right,
+        ram,
+        marks,
+        captured,
+    );
+    let pair = pair(&s.regs, s.reverb.held, sums, left, right);
+    let voices = v.voices;
+    let reverb = t.reverb;
+    let watch = t.watch;
+    let control = Control {
+        applied: spucnt % 0x40,
+        latch: s.control.latch,
+        doubt: s.control.doubt,
+    };
+    let mut state = s;
+    state.voices = voices;
+    state.noise = noise;
+    state.control = control;
+    state.capture = (s.capture + 2) % 0x400;
+    state.reverb = reverb;
+    state.tick = std::num::wrapping_add_u32(s.tick, 1);
+    Ticked { pair, state, watch }
+}
