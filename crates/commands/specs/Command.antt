@@ -1,9 +1,9 @@
 -- The command that a line gives, in the order of the programs' descriptions. Assumes nothing.
 use mathlib.Core.Bool.{Bool, true, false, cond, _&&_, _||_}
 use mathlib.Core.List.{List, [], _∷_}
-use Prim.Native.Nat.{ℕ, _+_, _-_, _*_, _%_}
+use Prim.Native.Nat.{ℕ, zero, suc, _+_, _-_, _*_, _%_}
 use lib.Dec.{eqb, leb}
-use lib.ListN.{getD}
+use lib.ListN.{getD, replicate, set}
 use lib.IntN.{ℤ, pos}
 use Rattle.fixed.specs.Signed.{signed}
 use Rattle.lines.specs.Fields.{packed}
@@ -55,6 +55,11 @@ readOf l = cond (given 1 l && isHex 1 4 (fieldAt l 1)) (Read (halfword (fieldAt 
 -- "s V ..", "one V or more"; of more than 33, 33 are as good: they are refused as well
 unfoldable pub inwardOf : Line → Command
 inwardOf l = cond (leb 2 (l .count) && (leb (l .count) 34 && l .halfwords)) (Inward (l .count - 1)) Bad
+
+-- the halfwords of an `s` line: n of 33 so far
+unfoldable pub valuesOf : Line → ℕ → List ℕ
+valuesOf l zero = replicate 33 0
+valuesOf l (suc n) = set (valuesOf l n) n (halfword (fieldAt l (n + 1)))
 
 -- "o N", "N to 64"
 unfoldable pub outwardOf : Line → Command

@@ -1,7 +1,7 @@
 // The command that a line gives.
 ghost use mathlib.Core.Path.{_≡_};
 ghost use Prim.Native.Nat.{_≤_};
-ghost use Rattle.commands.specs.Command.{writeOf, readOf, inwardOf, outwardOf, plainOf, tickOf, viewOf, resetOf, ranged as rangedOf, ramOf, marksOf, fillOf, wordOf, benchOf, rawOf, runOf, dataOf, replayOf};
+ghost use Rattle.commands.specs.Command.{writeOf, readOf, inwardOf, valuesOf, outwardOf, plainOf, tickOf, viewOf, resetOf, ranged as rangedOf, ramOf, marksOf, fillOf, wordOf, benchOf, rawOf, runOf, dataOf, replayOf};
 use lines::Line;
 
 pub enum Command {
@@ -84,6 +84,19 @@ fn inward_line(l: Line) -> Command
         return Command::Inward { count: n - 1 };
     }
     Command::Bad
+}
+
+// The halfwords of such a line, of which there are as many as its command says.
+pub fn values(l: Line) -> [u16; 33]
+    ensures { λ r. ⌜ r ≡ valuesOf l 33 ⌝ }
+{
+    let fields = l.fields;
+    let mut out = [0u16; 33];
+    for n in 0..33usize {
+        let f = fields[n + 1];
+        out[n] = (f.value % 0x10000) as u16;
+    }
+    out
 }
 
 fn outward_line(l: Line) -> Command

@@ -11,7 +11,7 @@ use Rattle.transfer.proofs.inward.Statement.{statement}
 use Rattle.transfer.proofs.inward.Tie as tie
 
 abbrev Inv-loop : tie.InvT-loop
-Inv-loop ram₀ marks₀ size values m₀ i₀ i-end ram marks m i = 
+Inv-loop ram₀ marks₀ size values m₀ i₀ i-end ram marks m i =
     (i ≤ i-end) × (i-end ≡ length values) × Lent size ram marks × (m .address .0 < size)
     × Does (repeat (putAt size values) i (m₀ .address)) (memOf ram₀ marks₀ (m₀ .watch)) (m .address) (memOf ram marks (m .watch))
 
@@ -19,7 +19,7 @@ abbrev μ-loop : tie.MeasureT-loop
 μ-loop ram₀ marks₀ size values m₀ i₀ i-end ram marks m i = i-end - i
 
 loop-holds : tie.Need-loop-holds Inv-loop μ-loop
-loop-holds c = 
+loop-holds c =
     let a = c .before .before .before in
     (omega arith, refl, a .pre .0, a .pre .1, repeat-none _ _ _)
 
@@ -30,7 +30,7 @@ shared-slice-read-put : tie.Need-shared-slice-read-put Inv-loop μ-loop
 shared-slice-read-put c = search needs
 
 put-requires : tie.Need-put-requires Inv-loop μ-loop
-put-requires c κs = 
+put-requires c κs =
     let a = c .before .before .before .before in
     (a .loop .inv .2, a .loop .inv .3)
 
@@ -41,7 +41,7 @@ loop-less : tie.Need-loop-less Inv-loop μ-loop
 loop-less c = search needs
 
 loop-again : tie.Need-loop-again Inv-loop μ-loop
-loop-again c = 
+loop-again c =
     let a = c .before .before .before .before in
     let b = a .before .before .before .before in
     let d = b .before in
@@ -56,7 +56,7 @@ same-length-2 c = search needs
 
 returns : tie.Need-returns Inv-loop μ-loop
 unfolding inwardOf
-returns c = 
+returns c =
     let a = c .before in
     let v = a .loop .inv in repeat-end _ _ _ _ _ (v .4) (omega (arith, v .0, v .1)) (omega (arith, c .loop-test .left, v .1))
 

@@ -13,7 +13,7 @@ use Rattle.transfer.proofs.outward.Statement.{statement}
 use Rattle.transfer.proofs.outward.Tie as tie
 
 abbrev Inv-loop : tie.InvT-loop
-Inv-loop ram marks size out₀ address₀ watch₀ i₀ i-end out address watch i = 
+Inv-loop ram marks size out₀ address₀ watch₀ i₀ i-end out address watch i =
     (i ≤ i-end) × (i-end ≡ length out₀) × (length out ≡ length out₀) × Lent size ram marks × (address .0 < size)
     × Does (repeat (getAt size) i (record { address = address₀; buffer = out₀ })) (memOf ram marks watch₀) (record { address = address; buffer = out }) (memOf ram marks watch)
 
@@ -21,12 +21,12 @@ abbrev μ-loop : tie.MeasureT-loop
 μ-loop ram marks size out₀ address₀ watch₀ i₀ i-end out address watch i = i-end - i
 
 loop-holds : tie.Need-loop-holds Inv-loop μ-loop
-loop-holds c = 
+loop-holds c =
     let a = c .before .before .before in
     (omega arith, refl, refl, a .pre .0, a .pre .1, repeat-none _ _ _)
 
 read-requires : tie.Need-read-requires Inv-loop μ-loop
-read-requires c κs = 
+read-requires c κs =
     let a = c .before in
     within (a .loop .inv .3) (a .loop .inv .4)
 
@@ -37,7 +37,7 @@ slice-write-out : tie.Need-slice-write-out Inv-loop μ-loop
 slice-write-out c = search needs
 
 forward-requires : tie.Need-forward-requires Inv-loop μ-loop
-forward-requires c κs = 
+forward-requires c κs =
     let a = c .before .before .before in
     let z = a .loop .inv .3 .sized in (a .loop .inv .4, omega (arith, z .least), z .most)
 
@@ -48,7 +48,7 @@ loop-less : tie.Need-loop-less Inv-loop μ-loop
 loop-less c = search needs
 
 loop-again : tie.Need-loop-again Inv-loop μ-loop
-loop-again c = 
+loop-again c =
     let a = c .before .before in
     let b = a .before in
     let d = b .before in
@@ -59,7 +59,7 @@ same-length c = search needs
 
 returns : tie.Need-returns Inv-loop μ-loop
 unfolding outwardOf
-returns c = 
+returns c =
     let a = c .before in
     let v = a .loop .inv in repeat-end _ _ _ _ _ (v .5) (omega (arith, v .0, v .1)) (omega (arith, c .loop-test .left, v .1))
 

@@ -17,7 +17,7 @@ same-length-2 : tie.Need-same-length-2
 same-length-2 c = search needs
 
 returns : tie.Need-returns
-returns c = 
+returns c =
     let a = c .before .before .before .before .before in
     let b = a .before .before .before .before .before in
     (put-does _ _ _ (a .write .ensures) (c .forward .ensures), forward-below _ _ _ 2 (c .forward .ensures) (b .pre .1))

@@ -1,0 +1,72 @@
+use Rattle.commands.proofs.values.Statement.{statement}
+use Rattle.commands.proofs.values.Tie as tie
+use Rattle.commands.proofs.values.Reads as reads
+use Rattle.commands.proofs.values.Lts as lts
+
+abbrev Inv-loop : tie.InvT-loop
+Inv-loop fields out₀ n₀ out n = ?
+
+abbrev μ-loop : tie.MeasureT-loop
+μ-loop fields out₀ n₀ out n = ?
+
+-- src/lib.rt:95:5
+loop-holds : tie.Need-loop-holds Inv-loop μ-loop
+loop-holds c = ?
+
+-- src/lib.rt:96:24
+add-f : tie.Need-add-f Inv-loop μ-loop
+add-f c = ?
+
+-- src/lib.rt:96:17
+mul-f : tie.Need-mul-f Inv-loop μ-loop
+mul-f c = ?
+
+-- src/lib.rt:96:17
+array-copy-out-f : tie.Need-array-copy-out-f Inv-loop μ-loop
+array-copy-out-f c = ?
+
+-- src/lib.rt:97:18
+cast-out : tie.Need-cast-out Inv-loop μ-loop
+cast-out c = ?
+
+-- src/lib.rt:97:9
+mul-out : tie.Need-mul-out Inv-loop μ-loop
+mul-out c = ?
+
+-- src/lib.rt:97:9
+array-write-out : tie.Need-array-write-out Inv-loop μ-loop
+array-write-out c = ?
+
+-- src/lib.rt:95:9
+add-n : tie.Need-add-n Inv-loop μ-loop
+add-n c = ?
+
+-- src/lib.rt:95:5
+loop-less : tie.Need-loop-less Inv-loop μ-loop
+loop-less c = ?
+
+-- src/lib.rt:95:5
+loop-again : tie.Need-loop-again Inv-loop μ-loop
+loop-again c = ?
+
+-- src/lib.rt:90:1
+returns : tie.Need-returns Inv-loop μ-loop
+returns c = ?
+
+pub values-spec : {M : Type 1} → statement M
+values-spec =
+    tie.close
+    (tie.spec
+    Inv-loop
+    μ-loop
+    loop-holds
+    add-f
+    mul-f
+    array-copy-out-f
+    cast-out
+    mul-out
+    array-write-out
+    add-n
+    loop-less
+    loop-again
+    returns)
