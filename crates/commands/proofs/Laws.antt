@@ -4,8 +4,10 @@ use mathlib.Core.Bool.{Bool, true, false, cond, _&&_, not, true≢false, false�
 use mathlib.Core.List.{List, [], _∷_}
 use Prim.Native.Nat.{ℕ, _+_, _*_, _%_, _^_, _≤_, _<_}
 use native.Mathlib.Nat.{le-trans, lt-of-le-of-lt, mul-le-mul, mod-lt}
+use native.Mathlib.Numerals.{add-one}
 use native.Mathlib.Omega.{arith}
 use lib.Dec.{eqb, leb, lit<}
+use lib.ListN.{replicate, set}
 use lib.IntN.{ℤ}
 use mir.Syntax.{w16, w64}
 use mir.Val.{Fits, toZ, ofZ}
@@ -15,7 +17,7 @@ use Rattle.fixed.proofs.Number.{res, is}
 use Rattle.fixed.proofs.TwosComplement.{signed-in}
 use Rattle.lines.specs.Line.{isCount}
 use Rattle.lines.specs.declared.Field.{Field}
-use Rattle.commands.specs.Command.{Named, chosen}
+use Rattle.commands.specs.Command.{halfword, fieldIn, valuesOf, Named, chosen}
 use Rattle.commands.specs.declared.Command.{Command}
 use Rattle.commands.specs.declared.Command.the-variants.{Bad, Tick}
 
@@ -101,6 +103,19 @@ no-range h k z {h′} {k′} f g e = rw (← f, ← g) (shut h′ k′ e)
     shut false b e = refl
     shut true false e = refl
     shut true true e = absurd (true≢false e)
+
+-- ---- halfwords
+
+pub values-none : (fs : List Field) → replicate 33 0 ≡ valuesOf fs 0
+unfolding valuesOf
+values-none fs = refl
+
+pub values-more : (fs : List Field) (n : ℕ) {vs : List ℕ} → vs ≡ valuesOf fs n → set vs n (halfword (fieldIn fs (n + 1))) ≡ valuesOf fs (n + 1)
+unfolding valuesOf
+values-more fs n {vs} e = rw (add-one, e)
+
+pub values-all : (fs : List Field) (n : ℕ) {vs : List ℕ} → n ≤ 33 → 33 ≤ n → vs ≡ valuesOf fs n → vs ≡ valuesOf fs 33
+values-all fs n h k e = let p : n ≡ 33 = omega arith in rw p at e
 
 -- ---- by the word
 

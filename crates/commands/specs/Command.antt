@@ -15,8 +15,11 @@ use Rattle.commands.specs.declared.Command.the-variants.{Bad, Quiet, Wri
 
 -- ---- a line's fields, the command first
 
+abbrev pub fieldIn : List Field → ℕ → Field
+fieldIn fs n = getD fs n (record { length = 0; word = 0; hex = false; value = 0; decimal = false; count = 0 })
+
 abbrev pub fieldAt : Line → ℕ → Field
-fieldAt l n = getD (l .fields) n (record { length = 0; word = 0; hex = false; value = 0; decimal = false; count = 0 })
+fieldAt l n = fieldIn (l .fields) n
 
 abbrev pub wordOf : Line → ℕ
 wordOf l = fieldAt l 0 .word
@@ -56,10 +59,10 @@ readOf l = cond (given 1 l && isHex 1 4 (fieldAt l 1)) (Read (halfword (fieldAt 
 unfoldable pub inwardOf : Line → Command
 inwardOf l = cond (leb 2 (l .count) && (leb (l .count) 34 && l .halfwords)) (Inward (l .count - 1)) Bad
 
--- the halfwords of an `s` line: n of 33 so far
-unfoldable pub valuesOf : Line → ℕ → List ℕ
-valuesOf l zero = replicate 33 0
-valuesOf l (suc n) = set (valuesOf l n) n (halfword (fieldAt l (n + 1)))
+-- the halfwords of an `s` line: the first n of 33
+unfoldable pub valuesOf : List Field → ℕ → List ℕ
+valuesOf fs zero = replicate 33 0
+valuesOf fs (suc n) = set (valuesOf fs n) n (halfword (fieldIn fs (suc n)))
 
 -- "o N", "N to 64"
 unfoldable pub outwardOf : Line → Command

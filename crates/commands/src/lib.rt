@@ -88,7 +88,7 @@ fn inward_line(l: Line) -> Command
 
 // The halfwords of such a line, of which there are as many as its command says.
 pub fn values(l: Line) -> [u16; 33]
-    ensures { λ r. ⌜ r ≡ valuesOf l 33 ⌝ }
+    ensures { λ r. ⌜ r ≡ valuesOf (l .fields) 33 ⌝ }
 {
     let fields = l.fields;
     let mut out = [0u16; 33];
