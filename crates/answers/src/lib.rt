@@ -1,13 +1,13 @@
 // The lines that the programs answer, put into lent bytes at a place. Each function answers the next place.
 ghost use mathlib.Core.Path.{_≡_};
 ghost use mathlib.Core.List.{List, [], _∷_, _++_};
-ghost use Prim.Native.Nat.{_+_, _<_, _≤_, _/_};
+ghost use Prim.Native.Nat.{_+_, _<_, _≤_, _/_, _^_};
 ghost use lib.ListN.{getD};
 ghost use Rattle.soundram.specs.Memory.{marked as markedAt};
 ghost use Rattle.text.specs.Text.{Prints};
 ghost use Rattle.answers.specs.Answer.{decimalPart, signedPart, pairPart, flagPart, hexPart, reportsPart, doubtEnd, endPart, startOf, writeText, readText, movedOf, inwardText, halfwordsFrom, halfwordsEnd, outwardText, tickStart, tickText, bitsOf, floatsPart, floatsText, bytesFrom, bytesEnd, viewText, resetText, ramText, marksFrom, marksEnd, marksText, benchText, refusedText, titleText};
 
-fn decimal_part(out: &mut [u8], place: usize, n: u32) -> usize
+fn decimal_part(out: &mut [u8], place: usize, n: u64) -> usize
     ensures { λ r. ⌜ Prints (decimalPart n) (now (out .entry)) place (now (out .exit)) r ⌝ }
 {
     let at = text::put_byte(out, place, b' ');
@@ -68,7 +68,7 @@ fn start(out: &mut [u8], place: usize, letter: u8, number: u8) -> usize
     ensures { λ r. ⌜ Prints (startOf letter number) (now (out .entry)) place (now (out .exit)) r ⌝ }
 {
     let at = text::put_byte(out, place, letter);
-    decimal_part(out, at, number as u32)
+    decimal_part(out, at, number as u64)
 }
 
 pub fn wrote(out: &mut [u8], place: usize, number: u8) -> usize
@@ -98,7 +98,7 @@ fn moved(
     ensures { λ r. ⌜ Prints (movedOf letter number count irq doubt) (now (out .entry)) place (now (out .exit)) r ⌝ }
 {
     let a = start(out, place, letter, number);
-    let b = decimal_part(out, a, count);
+    let b = decimal_part(out, a, count as u64);
     reports_part(out, b, irq, doubt)
 }
 
@@ -161,7 +161,7 @@ fn tick_start(out: &mut [u8], place: usize, letter: u8, number: u8, tick: u32) -
     ensures { λ r. ⌜ Prints (tickStart letter number tick) (now (out .entry)) place (now (out .exit)) r ⌝ }
 {
     let at = start(out, place, letter, number);
-    decimal_part(out, at, tick)
+    decimal_part(out, at, tick as u64)
 }
 
 pub fn ticked(
@@ -234,24 +234,21 @@ fn byte_at(bytes: &[u8], i: usize) -> u8
     0
 }
 
-fn bytes(out: &mut [u8], place: usize, values: &[u8], from: u32, n: u32) -> usize
+fn bytes(out: &mut [u8], place: usize, values: &[u8], from: usize, n: usize) -> usize
+    requires { ⌜ from + n < 2 ^ 64 ⌝ }
     ensures { λ r. ⌜ Prints (bytesFrom (now (values .entry)) from n) (now (out .entry)) place (now (out .exit)) r ⌝ }
 {
     let mut at = place;
-    let mut k = 0u32;
+    let mut k = 0;
     while k < n {
-        at = text::put_hex(
-            out,
-            at,
-            byte_at(values, from as usize + k as usize) as u32,
-            2,
-        );
+        at = text::put_hex(out, at, byte_at(values, from + k) as u32, 2);
         k += 1;
     }
     at
 }
 
-fn bytes_end(out: &mut [u8], place: usize, values: &[u8], from: u32, n: u32) -> usize
+fn bytes_end(out: &mut [u8], place: usize, values: &[u8], from: usize, n: usize) -> usize
+    requires { ⌜ from + n < 2 ^ 64 ⌝ }
     ensures { λ r. ⌜ Prints (bytesEnd (now (values .entry)) from n) (now (out .entry)) place (now (out .exit)) r ⌝ }
 {
     let a = text::put_byte(out, place, b' ');
@@ -260,12 +257,11 @@ fn bytes_end(out: &mut [u8], place: usize, values: &[u8], from: u32, n: u32) -> 
 }
 
 pub fn viewed(out: &mut [u8], place: usize, number: u8, view: &[u8]) -> usize
-    requires { do ⌜ (← ⟦view.len()⟧) < 0x100000000 ⌝ }
     ensures { λ r. ⌜ Prints (viewText number (now (view .entry))) (now (out .entry)) place (now (out .exit)) r ⌝ }
 {
-    let n = view.len() as u32;
+    let n = view.len();
     let a = start(out, place, b'v', number);
-    let b = decimal_part(out, a, n);
+    let b = decimal_part(out, a, n as u64);
     bytes_end(out, b, view, 0, n)
 }
 
@@ -273,7 +269,7 @@ pub fn was_reset(out: &mut [u8], place: usize, number: u8) -> usize
     ensures { λ r. ⌜ Prints (resetText number) (now (out .entry)) place (now (out .exit)) r ⌝ }
 {
     let a = text::put_text(out, place, b"reset");
-    let b = decimal_part(out, a, number as u32);
+    let b = decimal_part(out, a, number as u64);
     text::put_byte(out, b, b'\n')
 }
 
@@ -282,7 +278,7 @@ pub fn ram(out: &mut [u8], place: usize, address: u32, n: u32, values: &[u8]) ->
 {
     let a = text::put_text(out, place, b"ram");
     let b = hex_part(out, a, address, 5);
-    bytes_end(out, b, values, address, n)
+    bytes_end(out, b, values, address as usize, n as usize)
 }
 
 fn marked(marks: &[u8], h: usize) -> bool
@@ -329,7 +325,7 @@ pub fn bench_ticked(
 ) -> usize
     ensures { λ r. ⌜ Prints (benchText tick left right doubt) (now (out .entry)) place (now (out .exit)) r ⌝ }
 {
-    let a = text::put_decimal(out, place, tick);
+    let a = text::put_decimal(out, place, tick as u64);
     let b = pair_part(out, a, left, right);
     doubt_end(out, b, doubt)
 }
@@ -338,7 +334,7 @@ pub fn refused(out: &mut [u8], place: usize, number: u8) -> usize
     ensures { λ r. ⌜ Prints (refusedText number) (now (out .entry)) place (now (out .exit)) r ⌝ }
 {
     let a = text::put_text(out, place, b"refused");
-    let b = decimal_part(out, a, number as u32);
+    let b = decimal_part(out, a, number as u64);
     text::put_byte(out, b, b'\n')
 }
 
@@ -347,6 +343,6 @@ pub fn title(out: &mut [u8], place: usize, name: &[u8], size: u32) -> usize
     ensures { λ r. ⌜ Prints (titleText (now (name .entry)) size) (now (out .entry)) place (now (out .exit)) r ⌝ }
 {
     let a = text::put_text(out, place, name);
-    let b = decimal_part(out, a, size);
+    let b = decimal_part(out, a, size as u64);
     text::put_byte(out, b, b'\n')
 }

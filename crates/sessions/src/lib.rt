@@ -139,22 +139,24 @@ fn inward(
     changed(s, state, place)
 }
 
-// The buffer is lent holding A5A5h everywhere.
+fn outward_into(
+    ram: &[u8],
+    marks: &[u8],
+    out: &mut [u8],
+    s: Session,
+    buffer: &mut [u16],
+) -> Session {
+    let r = spu::transfer_out(s.state, ram, marks, buffer);
+    let state = r.state;
+    let place = answers::moved_out(out, s.place, r.number, r.count, r.irq, r.doubt, buffer);
+    changed(s, state, place)
+}
+
+// The buffer is lent holding A5A5h everywhere, and shown whole.
 fn outward(ram: &[u8], marks: &[u8], out: &mut [u8], s: Session, count: u32) -> Session {
     let mut buffer = [0xA5A5u16; 64];
     let n = least(count as usize, 64);
-    let r = spu::transfer_out(s.state, ram, marks, &mut buffer[..n]);
-    let state = r.state;
-    let place = answers::moved_out(
-        out,
-        s.place,
-        r.number,
-        r.count,
-        r.irq,
-        r.doubt,
-        &buffer[..n],
-    );
-    changed(s, state, place)
+    outward_into(ram, marks, out, s, &mut buffer[..n])
 }
 
 fn tick_answer(

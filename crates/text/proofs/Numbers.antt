@@ -89,9 +89,9 @@ digits-none base n (suc k) l h = absurd (omega (arith, h))
 -- ---- hex
 
 hexPower : ℕ → Bool
-hexPower j = eqb (1 * 2 ^ (4 * j) % 2 ^ 32) (16 ^ j)
+hexPower j = eqb (1 * 2 ^ (4 * j) % 2 ^ 64) (16 ^ j)
 
-pub hex-power : (k : ℕ) → 0 < k → k ≤ 8 → 1 * 2 ^ (4 * (k - 1)) % 2 ^ 32 ≡ 16 ^ (k - 1)
+pub hex-power : (k : ℕ) → 0 < k → k ≤ 8 → 1 * 2 ^ (4 * (k - 1)) % 2 ^ 64 ≡ 16 ^ (k - 1)
 unfolding hexPower
 hex-power k h m = eqb→eq _ _ (below-at 8 hexPower tt (k - 1) (omega arith))
 
@@ -104,11 +104,11 @@ idle n k p = ltb 1 k && eqb (n / p % 10) 0
 pub idle-more : (n k p : ℕ) → idle n k p ≡ true → 0 < k - 1
 idle-more n k p e = let h = ltb-true 1 k (and-first (ltb 1 k) (eqb (n / p % 10) 0) e) in omega arith
 
-pub decimal-all : (n : ℕ) → trimmed (digitsOf 10 n 10) ≡ decimalText n
+pub decimal-all : (n : ℕ) → trimmed (digitsOf 10 n 20) ≡ decimalText n
 unfolding decimalText
 decimal-all n = refl
 
-pub decimal-power : 1000000000 ≡ powerAt 10 10
+pub decimal-power : 10000000000000000000 ≡ powerAt 10 20
 unfolding powerAt
 decimal-power = refl
 

@@ -47,9 +47,9 @@ trimmed [] = []
 trimmed (d ∷ []) = d ∷ []
 trimmed (d ∷ e ∷ ds) = cond (eqb d 48) (trimmed (e ∷ ds)) (d ∷ e ∷ ds)
 
--- a number of 32 bits has at most ten digits
+-- a number of 64 bits has at most twenty digits
 unfoldable pub decimalText : ℕ → List ℕ
-decimalText n = trimmed (digitsOf 10 n 10)
+decimalText n = trimmed (digitsOf 10 n 20)
 
 unfoldable pub signedText : ℤ → List ℕ
 signedText (pos n) = decimalText n

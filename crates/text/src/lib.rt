@@ -27,7 +27,7 @@ pub fn put_text(out: &mut [u8], place: usize, text: &[u8]) -> usize
     at
 }
 
-fn glyph(d: u32) -> u8
+fn glyph(d: u64) -> u8
     requires { ⌜ d < 16 ⌝ }
     ensures { λ r. ⌜ r ≡ glyphOf d ⌝ }
 {
@@ -38,7 +38,7 @@ fn glyph(d: u32) -> u8
 }
 
 // The last k digits of n, where the first of them counts power.
-fn put_digits(out: &mut [u8], place: usize, base: u32, n: u32, k: u32, power: u32) -> usize
+fn put_digits(out: &mut [u8], place: usize, base: u64, n: u64, k: u32, power: u64) -> usize
     requires { ⌜ (1 < base) × (base ≤ 16) × (0 < k) × (power ≡ base ^ (k - 1)) ⌝ }
     ensures { λ r. ⌜ Prints (digitsOf base n k) (now (out .entry)) place (now (out .exit)) r ⌝ }
 {
@@ -58,14 +58,14 @@ pub fn put_hex(out: &mut [u8], place: usize, n: u32, k: u32) -> usize
     requires { ⌜ (0 < k) × (k ≤ 8) ⌝ }
     ensures { λ r. ⌜ Prints (hexText n k) (now (out .entry)) place (now (out .exit)) r ⌝ }
 {
-    put_digits(out, place, 16, n, k, 1u32 << (4 * (k - 1)))
+    put_digits(out, place, 16, n as u64, k, 1u64 << (4 * (k - 1)))
 }
 
-pub fn put_decimal(out: &mut [u8], place: usize, n: u32) -> usize
+pub fn put_decimal(out: &mut [u8], place: usize, n: u64) -> usize
     ensures { λ r. ⌜ Prints (decimalText n) (now (out .entry)) place (now (out .exit)) r ⌝ }
 {
-    let mut k: u32 = 10;
-    let mut power: u32 = 1000000000;
+    let mut k: u32 = 20;
+    let mut power: u64 = 10000000000000000000;
     while (k > 1) & (n / power % 10 == 0) {
         power /= 10;
         k -= 1;
@@ -76,7 +76,7 @@ pub fn put_decimal(out: &mut [u8], place: usize, n: u32) -> usize
 pub fn put_signed(out: &mut [u8], place: usize, x: i16) -> usize
     ensures { λ r. ⌜ Prints (signedText x) (now (out .entry)) place (now (out .exit)) r ⌝ }
 {
-    let bits = fixed::to_bits(x) as u32;
+    let bits = fixed::to_bits(x) as u64;
     if bits < 0x8000 {
         return put_decimal(out, place, bits);
     }

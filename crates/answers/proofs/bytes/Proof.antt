@@ -13,52 +13,48 @@ use Rattle.answers.proofs.byte_at.Reads as byte-at-reads
 use Rattle.text.proofs.put_hex.Reads as put-hex-reads
 
 abbrev Inv-loop : tie.InvT-loop
-Inv-loop out₀ place values from n at₀ k₀ out at k = (k ≤ n) × (length out ≡ length out₀) × Left (bytesFrom values from (n)) out₀ place (bytesFrom values (from + k) (n - k)) out at
+Inv-loop out₀ place values from n at₀ k₀ out at k = (k ≤ n) × (length out ≡ length out₀) × Left (bytesFrom values from n) out₀ place (bytesFrom values (from + k) (n - k)) out at
 
 abbrev μ-loop : tie.MeasureT-loop
 μ-loop out₀ place values from n at₀ k₀ out at k = n - k
 
--- src/lib.rt:180:5
+-- src/lib.rt:243:5
 loop-holds : tie.Need-loop-holds Inv-loop μ-loop
 loop-holds c = search (bytes-all, needs)
 
--- src/lib.rt:181:69
-cast-byte-at : tie.Need-cast-byte-at Inv-loop μ-loop
-cast-byte-at c = search needs
-
--- src/lib.rt:181:53
+-- src/lib.rt:244:53
 add-byte-at : tie.Need-add-byte-at Inv-loop μ-loop
 add-byte-at c = search needs
 
--- src/lib.rt:181:37
+-- src/lib.rt:244:37
 byte-at-requires : tie.Need-byte-at-requires Inv-loop μ-loop
 byte-at-requires c κs = search needs
 
--- src/lib.rt:181:37
+-- src/lib.rt:244:37
 cast-put-hex : tie.Need-cast-put-hex Inv-loop μ-loop
 cast-put-hex c = search needs
 
--- src/lib.rt:181:9
+-- src/lib.rt:244:9
 put-hex-requires : tie.Need-put-hex-requires Inv-loop μ-loop
 put-hex-requires c κs = search needs
 
--- src/lib.rt:182:9
+-- src/lib.rt:245:9
 add-k : tie.Need-add-k Inv-loop μ-loop
 add-k c = search needs
 
--- src/lib.rt:180:5
+-- src/lib.rt:243:5
 loop-less : tie.Need-loop-less Inv-loop μ-loop
 loop-less c = search needs
 
--- src/lib.rt:180:5
+-- src/lib.rt:243:5
 loop-again : tie.Need-loop-again Inv-loop μ-loop
 loop-again c = search (bytes-more, needs)
 
--- src/lib.rt:175:1
+-- src/lib.rt:237:1
 same-length : tie.Need-same-length Inv-loop μ-loop
 same-length c = search needs
 
--- src/lib.rt:175:1
+-- src/lib.rt:237:1
 returns : tie.Need-returns Inv-loop μ-loop
 returns c = search (bytes-none, needs)
 
@@ -69,7 +65,6 @@ bytes-spec =
     Inv-loop
     μ-loop
     loop-holds
-    cast-byte-at
     add-byte-at
     byte-at-requires
     cast-put-hex
