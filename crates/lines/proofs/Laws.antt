@@ -6,16 +6,18 @@ use Prim.Native.Nat.{ℕ, zero, suc, _+_, _-_, _*_, _≤_, _<_, min}
 use native.Mathlib.Omega.{arith}
 use native.Mathlib.Nat.{le-trans, lt-of-le-of-lt, mul-one, mul-le-mul, min-eq-left, min-eq-right, min-le-right, le-mul-of-pos-right}
 use native.Mathlib.Decide.{decLe}
+use native.Mathlib.Numerals.{add-one}
 use lib.Dec.{leb, ltb, eqb, lit<}
 use mir.Syntax.{w64}
 use mir.Val.{Fits}
-use lib.ListN.{length, set}
-use lib.Seq.{set-out}
+use lib.ListN.{length, getD, drop, set, drop-of-length-le}
+use lib.Seq.{set-out, drop-cons}
 use borrow.Author.Tests.{leb-true, eq-eqb, ne-eqb}
 use Rattle.lines.specs.Fields.{blank, digitOf}
-use Rattle.lines.specs.Line.{lengthLimit, wordLimit, valueLimit, countLimit, moreOf, joinedOf, endedOf, begunOf, grownOf, feedOf}
+use Rattle.lines.specs.Line.{lengthLimit, wordLimit, valueLimit, countLimit, moreOf, joinedOf, endedOf, begunOf, grownOf, feedOf, scanOf}
 use Rattle.lines.specs.declared.Field.{Field}
 use Rattle.lines.specs.declared.Line.{Line}
+use Rattle.lines.specs.declared.Scanned.{Scanned}
 
 -- ---- digits
 
@@ -129,3 +131,18 @@ feed-blank l b p q h e = rw (← q, h, ← p) e
 pub feed-other : (l : Line) (b : ℕ) {t r : Line} {x : Bool} → t ≡ begunOf l b → x ≡ blank b → x ≡ false → r ≡ grownOf t b → r ≡ feedOf l b
 unfolding feedOf
 feed-other l b p q h e = rw (← q, h, ← p) e
+
+-- ---- a run of bytes
+
+module _ (bytes : List ℕ) (i : ℕ) (l : Line) (r : Scanned) (e : scanOf l i (drop i bytes) ≡ r) where
+  pub scan-more : {k : Line} → i < length bytes → (getD bytes i 0 ≡ 10 → ⊥) → k ≡ feedOf l (getD bytes i 0) → scanOf k (i + 1) (drop (i + 1) bytes) ≡ r
+  unfolding scanOf
+  scan-more h n f = rw (f, add-one) (sym (rw (ne-eqb (getD bytes i 0) 10 n, add-one)) ∙ rw (drop-cons bytes i 0 h) at e)
+
+  pub scan-end : i < length bytes → getD bytes i 0 ≡ 10 → record { line = l; at = i + 1; ended = true } ≡ r
+  unfolding scanOf
+  scan-end h n = rw (eq-eqb (getD bytes i 0) 10 n) at (rw (drop-cons bytes i 0 h) at e)
+
+  pub scan-out : length bytes ≤ i → record { line = l; at = i; ended = false } ≡ r
+  unfolding scanOf
+  scan-out h = rw (drop-of-length-le bytes h) at e

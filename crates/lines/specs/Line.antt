@@ -7,6 +7,7 @@ use lib.ListN.{length, getD, drop, replicate, set}
 use Rattle.lines.specs.Fields.{blank, digitOf, digitsOnly, numberFrom, packed, fieldsOf}
 use Rattle.lines.specs.declared.Field.{Field}
 use Rattle.lines.specs.declared.Line.{Line}
+use Rattle.lines.specs.declared.Scanned.{Scanned}
 
 -- ---- of a field, whatever its length: each number up to a limit that no field of a command reaches
 
@@ -131,3 +132,8 @@ feedOf l b = cond (blank b) (endedOf (begunOf l b)) (grownOf (begunOf l b) b)
 abbrev pub fedOf : Line → List ℕ → Line
 fedOf l [] = l
 fedOf l (b ∷ bs) = fedOf (feedOf l b) bs
+
+-- "A line is what stands before LF": the bytes up to it are fed, from index i on
+unfoldable pub scanOf : Line → ℕ → List ℕ → Scanned
+scanOf l i [] = record { line = l; at = i; ended = false }
+scanOf l i (b ∷ bs) = cond (eqb b 10) (record { line = l; at = i + 1; ended = true }) (scanOf (feedOf l b) (i + 1) bs)

@@ -1,9 +1,9 @@
 // What is kept of a line of text that is read byte by byte. A line may be of any length: what is kept is bounded.
 ghost use mathlib.Core.Path.{_≡_};
 ghost use Prim.Native.Nat.{_+_, _*_, _<_, _≤_, min};
-ghost use lib.ListN.{set};
+ghost use lib.ListN.{drop, set};
 ghost use Rattle.lines.specs.Fields.{blank as blankAt, digitOf};
-ghost use Rattle.lines.specs.Line.{noneOf, moreOf, isHex, isCount, freshOf, joinedOf, endedOf, begunOf, grownOf, feedOf};
+ghost use Rattle.lines.specs.Line.{noneOf, moreOf, isHex, isCount, freshOf, joinedOf, endedOf, begunOf, grownOf, feedOf, scanOf};
 
 // A field: its length, its bytes as one number, and its value if its bytes are digits, each up to a limit.
 pub struct Field {
@@ -197,4 +197,35 @@ pub fn feed(l: Line, b: u8) -> Line
         return finish(t);
     }
     grow(t, b)
+}
+
+// A line after a run of bytes, the index past the last of them, and whether that was the line's end.
+pub struct Scanned {
+    pub line: Line,
+    pub at: usize,
+    pub ended: bool,
+}
+
+// The bytes from an index on, up to a line's end or their own.
+pub fn scan(l: Line, bytes: &[u8], from: usize) -> Scanned
+    ensures { λ r. ⌜ r ≡ scanOf l from (drop from (now (bytes .entry))) ⌝ }
+{
+    let mut line = l;
+    let mut i = from;
+    while i < bytes.len() {
+        if bytes[i] == b'\n' {
+            return Scanned {
+                line,
+                at: i + 1,
+                ended: true,
+            };
+        }
+        line = feed(line, bytes[i]);
+        i += 1;
+    }
+    Scanned {
+        line,
+        at: i,
+        ended: false,
+    }
 }

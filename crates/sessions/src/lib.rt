@@ -25,6 +25,22 @@ pub struct Reading {
     pub more: bool,
 }
 
+// The same, and how far a piece of the input is read.
+pub struct Taken {
+    pub reading: Reading,
+    pub at: usize,
+}
+
+// Before a line, unless the output takes no more.
+fn unread(s: Session) -> Reading {
+    let line = Line::fresh();
+    Reading {
+        session: s,
+        line,
+        more: s.open,
+    }
+}
+
 // ---- output
 
 // Writes what waits, unless a write failed before.
@@ -32,9 +48,11 @@ fn flush(out: &[u8], s: Session) -> Session {
     let place = s.place;
     let mut t = s;
     t.place = 0;
-    if s.open & (place <= out.len()) {
-        t.open = io::write_all(STDOUT_FILENO, &out[..place]);
-        return t;
+    if place <= out.len() {
+        if s.open {
+            t.open = io::write_all(STDOUT_FILENO, &out[..place]);
+            return t;
+        }
     }
     t
 }
@@ -340,24 +358,39 @@ fn answer(ram: &mut [u8], marks: &mut [u8], out: &mut [u8], s: Session, line: Li
     obey(ram, marks, out, t, l, command_of(t, l))
 }
 
-fn take(ram: &mut [u8], marks: &mut [u8], out: &mut [u8], r: Reading, input: &[u8]) -> Reading {
-    let mut session = r.session;
-    let mut line = r.line;
-    let mut i = 0;
-    while i < input.len() {
-        if input[i] == b'\n' {
-            session = answer(ram, marks, out, session, line);
-            line = Line::fresh();
-        } else {
-            line = lines::feed(line, input[i]);
-        }
-        i += 1;
+// What a piece of the input holds of a line, from an index on.
+fn step(ram: &mut [u8], marks: &mut [u8], out: &mut [u8], t: Taken, input: &[u8]) -> Taken {
+    let r = t.reading;
+    let session = r.session;
+    let found = lines::scan(r.line, input, t.at);
+    let line = found.line;
+    if found.ended {
+        let next = answer(ram, marks, out, session, line);
+        let reading = unread(next);
+        return Taken {
+            reading,
+            at: found.at,
+        };
     }
-    Reading {
+    let reading = Reading {
         session,
         line,
-        more: session.open,
+        more: true,
+    };
+    Taken {
+        reading,
+        at: found.at,
     }
+}
+
+fn take(ram: &mut [u8], marks: &mut [u8], out: &mut [u8], r: Reading, input: &[u8]) -> Reading {
+    let mut t = Taken { reading: r, at: 0 };
+    let mut k = 0;
+    while (k < input.len()) & (t.at < input.len()) {
+        t = step(ram, marks, out, t, input);
+        k += 1;
+    }
+    t.reading
 }
 
 // One piece of the input; none is the end.
@@ -386,12 +419,7 @@ fn pieces(
     s: Session,
     input: &mut [u8],
 ) -> Reading {
-    let line = Line::fresh();
-    let mut r = Reading {
-        session: s,
-        line,
-        more: true,
-    };
+    let mut r = unread(s);
     let mut turns = u64::MAX;
     while (turns > 0) & r.more {
         r = piece(ram, marks, out, r, input);
