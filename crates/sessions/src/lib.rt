@@ -385,10 +385,13 @@ fn step(ram: &mut [u8], marks: &mut [u8], out: &mut [u8], t: Taken, input: &[u8]
 
 fn take(ram: &mut [u8], marks: &mut [u8], out: &mut [u8], r: Reading, input: &[u8]) -> Reading {
     let mut t = Taken { reading: r, at: 0 };
-    let mut k = 0;
-    while (k < input.len()) & (t.at < input.len()) {
+    let mut most = input.len();
+    while most > 0 {
+        if input.len() <= t.at {
+            return t.reading;
+        }
         t = step(ram, marks, out, t, input);
-        k += 1;
+        most -= 1;
     }
     t.reading
 }
@@ -421,7 +424,10 @@ fn pieces(
 ) -> Reading {
     let mut r = unread(s);
     let mut turns = u64::MAX;
-    while (turns > 0) & r.more {
+    while turns > 0 {
+        if !r.more {
+            return r;
+        }
         r = piece(ram, marks, out, r, input);
         turns -= 1;
     }
