@@ -18,13 +18,13 @@ use Rattle.envelope.specs.Adsr.{active}
 use Rattle.noise.specs.declared.Noise.{Noise}
 use Rattle.noise.specs.Noise.{writtenOf}
 use Rattle.soundram.specs.declared.ByteAddress.{ByteAddress}
-use Rattle.soundram.specs.Address.{addressOf, Sized}
+use Rattle.soundram.specs.Address.{addressOf, halfwordOf, Sized}
 use Rattle.registers.specs.Map.{registerAt, ofVoice}
 use Rattle.voice.specs.declared.Voice.{Voice}
 use Rattle.voice.specs.Voice.{fresh, keyedOn, keyedOff, stoppedOf}
 use Rattle.voices.specs.Voices.{pastEnd}
 use Rattle.chip.specs.declared.State.{State}
-use Rattle.chip.specs.State.{withRegs, withVoices, withReverb, withTransfer, madeOf, freshOf, allOf, sizeOk, voiceOk, everyOk, baseOf, stateOk}
+use Rattle.chip.specs.State.{withRegs, withVoices, withReverb, withTransfer, madeOf, freshOf, allOf, sizeOk, voiceOk, everyOk, baseOf, stateOk, watchOf}
 use Rattle.chip.specs.Registers.{isVoice, onBits, onKeys, keyed, keyOn, keyOff, repeated, setRepeat, stopFirst, setControl, isRepeat, isKeyOn, isKeyOff, placed, effectOf, between, listed, writeOf, endFlags, isLevel, statusOf, doubled, voiceAt, readOf}
 use Rattle.chip.proofs.Tests.{and-first, and-rest, sized}
 
@@ -297,3 +297,9 @@ module _ (s : State) (offset : ℕ) {r : ℕ} where
   unfolding readOf
   read-kept a b c d e f g h =
       rw (a, b, ne-eqb offset 0x19C c, ne-eqb offset 0x19E d, ne-eqb offset 0x1AE e, ne-eqb offset 0x1B8 f, ne-eqb offset 0x1BA g, h)
+
+-- c is SPUCNT, i the IRQ address's unit, a its address
+pub watch-as : (s : State) {c i : ℕ} {a : ByteAddress} → c ≡ registerAt (s .regs) 0x1AA → i ≡ registerAt (s .regs) 0x1A4 → a ≡ addressOf (s .choices .size) (record { 0 = i })
+    → record { armed = bit 15 c && bit 6 c; halfword = halfwordOf a; latch = s .control .latch; doubt = s .control .doubt } ≡ watchOf s
+unfolding watchOf
+watch-as s ec ei ea = rw (ea, ei, ec)

@@ -48,11 +48,12 @@ pairOf regs held sums left right =
 abbrev pub captureAt : ℕ → ℕ → ℤ → Prog (Unit {0})
 captureAt area place x = put ((area + place) / 2) (bitsOf 16 x)
 
+-- two areas, 400h apart
+unfoldable pub captureBoth : ℕ → ℕ → ℤ → ℤ → Prog (Unit {0})
+captureBoth area place x y = bind (captureAt area place x) (λ _. captureAt (area + 0x400) place y)
+
 unfoldable pub captureOf : ℕ → ℤ → ℤ → Captured → Prog (Unit {0})
-captureOf place left right c =
-    bind (captureAt 0x000 place left) (λ _.
-    bind (captureAt 0x400 place right) (λ _.
-    bind (captureAt 0x800 place (c .first)) (λ _. captureAt 0xC00 place (c .third))))
+captureOf place left right c = bind (captureBoth 0x000 place left right) (λ _. captureBoth 0x800 place (c .first) (c .third))
 
 abbrev pub captureNext : ℕ → ℕ
 captureNext place = (place + 2) % 0x400
@@ -73,12 +74,16 @@ inputOf regs wet cd = saturated (wet +ℤ cond (bit 2 (registerAt regs 0x1AA)) c
 unfoldable pub placeAfter : ℕ → ℕ → Bool → ℕ → ℕ
 placeAfter size base right place = cond right (cond (eqb (place + 2) size) base (place + 2)) place
 
+-- "Each side's output .. is held till its next turn"
+unfoldable pub heldOf : Bool → Held → ℤ → Held
+heldOf right h out = record { left = cond right (h .left) out; right = cond right out (h .right) }
+
 unfoldable pub reverbAfter : ℕ → ℕ → Reverb → ℤ → Reverb
 reverbAfter size base r out =
     record {
       place = record { 0 = placeAfter size base (r .right) (r .place .0) };
       right = not (r .right);
-      held = record { left = cond (r .right) (r .held .left) out; right = cond (r .right) out (r .held .right) };
+      held = heldOf (r .right) (r .held) out;
     }
 
 abbrev pub areaOf : ℕ → ℕ → Reverb → Area

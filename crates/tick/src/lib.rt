@@ -12,7 +12,7 @@ ghost use Rattle.soundram.specs.Program.{Does, memOf};
 ghost use Rattle.voices.specs.Voices.{SumsIn};
 ghost use Rattle.chip.specs.Range.{InRange, PlaceIn};
 ghost use Rattle.chip.specs.State.{baseAt};
-ghost use Rattle.tick.specs.Tick.{cdOf, mixOf, pairOf, captureOf, captureAt, turningOf, inputOf, enteringOf, placeAfter, reverbAfter, reverbOf, tickOf};
+ghost use Rattle.tick.specs.Tick.{cdOf, mixOf, pairOf, captureOf, captureBoth, captureAt, turningOf, inputOf, enteringOf, placeAfter, heldOf, reverbAfter, reverbOf, tickOf};
 use chip::Control;
 use chip::Held;
 use chip::Reverb;
@@ -84,18 +84,13 @@ fn mix(regs: &[u16; 256], total: i32, held: i16, cd: i32, main: usize) -> i16
     fixed::saturate(fixed::product(sum as i32, volume))
 }
 
-fn pair(regs: &[u16; 256], held: Held, sums: Sums, left: i16, right: i16) -> Pair
+fn mixed(regs: &[u16; 256], held: Held, sums: Sums, left: i16, right: i16) -> Pair
     ensures { λ r. ⌜ r ≡ pairOf (now (regs .entry)) held sums left right ⌝ }
 {
+    let dry = sums.dry;
     Pair {
-        left: mix(regs, sums.dry.left, held.left, cd(regs, 0x1B0, left), 0x180),
-        right: mix(
-            regs,
-            sums.dry.right,
-            held.right,
-            cd(regs, 0x1B2, right),
-            0x182,
-        ),
+        left: mix(regs, dry.left, held.left, cd(regs, 0x1B0, left), 0x180),
+        right: mix(regs, dry.right, held.right, cd(regs, 0x1B2, right), 0x182),
     }
 }
 
@@ -122,6 +117,24 @@ fn capture_at(
     )
 }
 
+// In two areas, 400h apart.
+fn capture_both(
+    ram: &mut [u8],
+    marks: &mut [u8],
+    size: u32,
+    area: u32,
+    place: u16,
+    x: i16,
+    y: i16,
+    w: Watch,
+) -> Watch
+    requires { ⌜ Lent size (now ram) (now marks) × (area < 0xC00) × (place < 0x400) ⌝ }
+    ensures { λ r. ⌜ Does (captureBoth area place x y) (memOf (now (ram .entry)) (now (marks .entry)) w) tt (memOf (now (ram .exit)) (now (marks .exit)) r) ⌝ }
+{
+    let first = capture_at(ram, marks, size, area, place, x, w);
+    capture_at(ram, marks, size, area + 0x400, place, y, first)
+}
+
 fn capture(
     ram: &mut [u8],
     marks: &mut [u8],
@@ -135,10 +148,8 @@ fn capture(
     requires { ⌜ Lent size (now ram) (now marks) × (place < 0x400) ⌝ }
     ensures { λ r. ⌜ Does (captureOf place left right c) (memOf (now (ram .entry)) (now (marks .entry)) w) tt (memOf (now (ram .exit)) (now (marks .exit)) r) ⌝ }
 {
-    let a = capture_at(ram, marks, size, 0x000, place, left, w);
-    let b = capture_at(ram, marks, size, 0x400, place, right, a);
-    let d = capture_at(ram, marks, size, 0x800, place, c.first, b);
-    capture_at(ram, marks, size, 0xC00, place, c.third, d)
+    let cd = capture_both(ram, marks, size, 0x000, place, left, right, w);
+    capture_both(ram, marks, size, 0x800, place, c.first, c.third, cd)
 }
 
 // ---- reverb
@@ -166,14 +177,15 @@ fn input(regs: &[u16; 256], wet: i32, cd: i32) -> i16
 }
 
 // What enters the reverb, of the turn's side.
-fn entering(regs: &[u16; 256], to_right: bool, sums: Sums, left: i16, right: i16) -> i16
+fn entering(regs: &[u16; 256], rightward: bool, sums: Sums, left: i16, right: i16) -> i16
     requires { ⌜ SumsIn 24 sums ⌝ }
-    ensures { λ r. ⌜ r ≡ enteringOf (now (regs .entry)) to_right sums left right ⌝ }
+    ensures { λ r. ⌜ r ≡ enteringOf (now (regs .entry)) rightward sums left right ⌝ }
 {
-    if to_right {
-        return input(regs, sums.wet.right, cd(regs, 0x1B2, right));
+    let wet = sums.wet;
+    if rightward {
+        return input(regs, wet.right, cd(regs, 0x1B2, right));
     }
-    input(regs, sums.wet.left, cd(regs, 0x1B0, left))
+    input(regs, wet.left, cd(regs, 0x1B0, left))
 }
 
 fn place_after(size: u32, base: u32, right: bool, place: u32) -> u32
@@ -190,7 +202,7 @@ fn place_after(size: u32, base: u32, right: bool, place: u32) -> u32
 }
 
 fn hold(right: bool, held: Held, out: i16) -> Held
-    ensures { λ r. ⌜ r ≡ record { left = cond right (held .left) out; right = cond right out (held .right) } ⌝ }
+    ensures { λ r. ⌜ r ≡ heldOf right held out ⌝ }
 {
     if right {
         return Held {
@@ -277,7 +289,7 @@ pub fn run(s: State, ram: &mut [u8], marks: &mut [u8], left: i16, right: i16, w:
         marks,
         captured,
     );
-    let pair = pair(&s.regs, s.reverb.held, sums, left, right);
+    let pair = mixed(&s.regs, s.reverb.held, sums, left, right);
     let voices = v.voices;
     let reverb = t.reverb;
     let watch = t.watch;

@@ -1,8 +1,8 @@
 -- Sides and sums, from what the code's parts give, and their ranges. Assumes nothing.
-use mathlib.Core.Path.{_≡_}
+use mathlib.Core.Path.{_≡_, subst}
 use mathlib.Core.Bool.{Bool, true, false, cond, _&&_}
 use mathlib.Core.List.{List}
-use Prim.Native.Nat.{ℕ, _+_, _*_, _<_}
+use Prim.Native.Nat.{ℕ, _+_, _*_, _≤_, _<_}
 use native.Mathlib.Omega.{arith}
 use lib.Dec.{ltb}
 use borrow.Author.Tests.{ne-eqb}
@@ -83,3 +83,6 @@ none-in = record { dry = record { left = zero-in; right = zero-in }; wet = recor
   where
     zero-in : In 0 0 (pos 0)
     zero-in = record { top = omega arith; low = omega arith }
+
+pub sums-end : {n k : ℕ} {s : Sums} → SumsIn n s → n ≤ k → k ≤ n → SumsIn k s
+sums-end {n} {k} {s} i a b = let e : n ≡ k = omega arith in subst (λ (j : ℕ). SumsIn j s) e i

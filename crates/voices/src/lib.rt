@@ -177,7 +177,7 @@ fn in_order(
     w: Watch,
 ) -> Voiced
     requires { ⌜ (now table ≡ factors) × Lent size (now ram) (now marks) × AllIn size v ⌝ }
-    ensures { λ r. ⌜ Does (repeat (voiceAt size (now (regs .entry)) level) 24 (record { voices = v; sums = noSums })) (memOf (now (ram .entry)) (now (marks .entry)) w) (record { voices = r .voices; sums = r .sums }) (memOf (now (ram .entry)) (now (marks .entry)) (r .watch)) ⌝ }
+    ensures { λ r. ⌜ Does (repeat (voiceAt size (now (regs .entry)) level) 24 (record { voices = v; sums = noSums })) (memOf (now (ram .entry)) (now (marks .entry)) w) (record { voices = r .voices; sums = r .sums }) (memOf (now (ram .entry)) (now (marks .entry)) (r .watch)) × SumsIn 24 (r .sums) ⌝ }
 {
     let mut voices = v;
     let mut sums = Sums {
@@ -215,7 +215,7 @@ pub fn tick(
     w: Watch,
 ) -> Voiced
     requires { ⌜ Lent size (now ram) (now marks) × AllIn size v ⌝ }
-    ensures { λ r. ⌜ Does (repeat (voiceAt size (now (regs .entry)) level) 24 (record { voices = v; sums = noSums })) (memOf (now (ram .entry)) (now (marks .entry)) w) (record { voices = r .voices; sums = r .sums }) (memOf (now (ram .entry)) (now (marks .entry)) (r .watch)) ⌝ }
+    ensures { λ r. ⌜ Does (repeat (voiceAt size (now (regs .entry)) level) 24 (record { voices = v; sums = noSums })) (memOf (now (ram .entry)) (now (marks .entry)) w) (record { voices = r .voices; sums = r .sums }) (memOf (now (ram .entry)) (now (marks .entry)) (r .watch)) × SumsIn 24 (r .sums) ⌝ }
 {
     let table = gauss::table();
     in_order(&table, regs, size, level, v, ram, marks, w)

@@ -6,7 +6,7 @@ use lib.ListN.{length}
 use Rattle.soundram.specs.Program.{Does, memOf, repeat}
 use Rattle.soundram.proofs.Programs.{repeat-none, repeat-more, repeat-end}
 use Rattle.voices.specs.Voices.{SumsIn, voiceAt, AllIn, noSums}
-use Rattle.voices.proofs.Shares.{none-in}
+use Rattle.voices.proofs.Shares.{none-in, sums-end}
 use Rattle.voices.proofs.Turns.{turn-range, voice-does, all-set}
 use Rattle.voices.proofs.in_order.Statement.{statement}
 use Rattle.voices.proofs.in_order.Tie as tie
@@ -65,7 +65,7 @@ loop-again c =
 
 returns : tie.Need-returns Inv-loop μ-loop
 unfolding noSums
-returns c = let v = c .before .loop .inv in repeat-end _ _ _ _ _ (v .4) (v .0) (omega arith)
+returns c = let v = c .before .loop .inv in (repeat-end _ _ _ _ _ (v .4) (v .0) (omega arith), sums-end (v .3) (v .0) (omega arith))
 
 pub in-order-spec : {M : Type 1} → statement M
 in-order-spec =

@@ -1,0 +1,171 @@
+-- A tick's stages, from what the code's parts give. Primed names are values as the calls have them. Assumes nothing.
+use mathlib.Core.Path.{_≡_, refl, sym, _∙_}
+use mathlib.Core.Bool.{Bool, true, false, cond, _&&_, not}
+use mathlib.Core.List.{List}
+use Prim.Native.Nat.{ℕ, _+_, _-_, _/_, _%_, _^_, _≤_, _<_}
+use native.Mathlib.Omega.{arith}
+use borrow.Author.Tests.{eq-eqb, ne-eqb, not-true, not-false}
+use lib.Dec.{eqb}
+use lib.IntN.{ℤ, pos, _+ℤ_}
+use Rattle.fixed.specs.Bits.{bit}
+use Rattle.fixed.specs.Signed.{signed, bitsOf}
+use Rattle.fixed.specs.Arithmetic.{saturated, productOf, volumeOf}
+use Rattle.fixed.proofs.Parts.{add-is, eq-parts}
+use Rattle.noise.specs.declared.Noise.{Noise}
+use Rattle.noise.specs.Noise.{tickedOf}
+use Rattle.soundram.specs.declared.ByteAddress.{ByteAddress}
+use Rattle.soundram.specs.Address.{addressOf, halfwordOf, Sized}
+use Rattle.soundram.specs.Program.{Mem, Does, put, repeat}
+use Rattle.soundram.proofs.Programs.{does-done, does-give, does-bind}
+use Rattle.registers.specs.Map.{registerAt}
+use Rattle.voice.specs.declared.Voice.{Voice}
+use Rattle.voices.specs.declared.Captured.{Captured}
+use Rattle.voices.specs.declared.Sums.{Sums}
+use Rattle.voices.specs.Voices.{noSums, voiceAt}
+use Rattle.reverb.specs.declared.Area.{Area}
+use Rattle.reverb.specs.declared.Turning.{Turning}
+use Rattle.reverb.specs.Reverb.{AreaIn, sideOf, turnOf}
+use Rattle.chip.specs.declared.Held.{Held}
+use Rattle.chip.specs.declared.Reverb.{Reverb}
+use Rattle.chip.specs.declared.State.{State}
+use Rattle.chip.specs.State.{baseAt}
+use Rattle.chip.specs.Range.{PlaceIn}
+use Rattle.tick.specs.declared.Pair.{Pair}
+use Rattle.tick.specs.Tick.{cdOf, mixOf, pairOf, captureAt, captureBoth, captureOf, captureNext, turningOf, inputOf, enteringOf, placeAfter, heldOf, reverbAfter, reverbOf, tickOf}
+
+-- ---- mix: b is the bit of SPUCNT
+
+module _ (regs : List ℕ) (offset : ℕ) (x : ℤ) {b : Bool} (e : b ≡ bit 0 (registerAt regs 0x1AA)) where
+  pub cd-on : {r : ℤ} → b ≡ true → r ≡ productOf x (signed 16 (registerAt regs offset)) → r ≡ cdOf regs offset x
+  unfolding cdOf
+  cd-on t p = rw (← e, t, p)
+
+  pub cd-off : b ≡ false → pos 0 ≡ cdOf regs offset x
+  unfolding cdOf
+  cd-off t = rw (← e, t)
+
+pub heard-on : (on : Bool) (total held : ℤ) {r : ℤ} → on ≡ true → r ≡ saturated total +ℤ held → r ≡ cond on (saturated total +ℤ held) (pos 0)
+heard-on on total held t p = rw (t, p)
+
+pub heard-off : (on : Bool) (total held : ℤ) → on ≡ false → pos 0 ≡ cond on (saturated total +ℤ held) (pos 0)
+heard-off on total held t = rw t
+
+pub mix-as : (regs : List ℕ) (total held cd : ℤ) (main : ℕ) {b : Bool} {total′ held′ r : ℤ} → b ≡ bit 14 (registerAt regs 0x1AA) → total′ ≡ total → held′ ≡ held
+    → r ≡ saturated (productOf (saturated (cond b (saturated total′ +ℤ held′) (pos 0) +ℤ cd)) (volumeOf (registerAt regs main))) → r ≡ mixOf regs total held cd main
+unfolding mixOf
+mix-as regs total held cd main eb et eh er = rw (er, eh, et, eb)
+
+pub side-as : (regs : List ℕ) (total held x : ℤ) (main offset : ℕ) {total′ held′ cd x′ r : ℤ} → r ≡ mixOf regs total′ held′ cd main → total′ ≡ total → held′ ≡ held → cd ≡ cdOf regs offset x′ → x′ ≡ x
+    → r ≡ mixOf regs total held (cdOf regs offset x) main
+side-as regs total held x main offset er et eh ec ex = rw (er, et, eh, ec, ex)
+
+pub pair-as : (regs : List ℕ) (h : Held) (s : Sums) (left right : ℤ) {l r : ℤ} → l ≡ mixOf regs (s .dry .left) (h .left) (cdOf regs 0x1B0 left) 0x180
+    → r ≡ mixOf regs (s .dry .right) (h .right) (cdOf regs 0x1B2 right) 0x182 → record { left = l; right = r } ≡ pairOf regs h s left right
+unfolding pairOf
+pair-as regs h s left right el er = rw (el, er)
+
+-- ---- capture
+
+pub capture-as : (area place : ℕ) (x : ℤ) {x′ : ℤ} {v : ℕ} {m n : Mem} → x′ ≡ x → v ≡ bitsOf 16 x′ → Does (put ((area + place) / 2) v) m tt n → Does (captureAt area place x) m tt n
+capture-as area place x ex ev d = rw (ev, ex) at d
+
+pub both-does : (area place : ℕ) (x y : ℤ) {x′ y′ : ℤ} {k m n : Mem} → x′ ≡ x → y′ ≡ y → Does (captureAt area place x′) k tt m → Does (captureAt (area + 0x400) place y′) m tt n
+    → Does (captureBoth area place x y) k tt n
+unfolding captureBoth
+both-does area place x y ex ey d e = does-bind _ (rw ex at d) (rw ey at e)
+
+pub capture-does : (place : ℕ) (left right : ℤ) (c : Captured) {l r a b : ℤ} {k m n : Mem} → l ≡ left → r ≡ right → a ≡ c .first → b ≡ c .third
+    → Does (captureBoth 0x000 place l r) k tt m → Does (captureBoth 0x800 place a b) m tt n → Does (captureOf place left right c) k tt n
+unfolding captureOf
+capture-does place left right c el er ea eb d e = does-bind _ (rw (el, er) at d) (rw (ea, eb) at e)
+
+-- ---- reverb
+
+pub turning-as : (regs : List ℕ) (right : Bool) {on : Bool} {s v : ℕ} → on ≡ bit 7 (registerAt regs 0x1AA) → s ≡ sideOf right → v ≡ registerAt regs (0x184 + s)
+    → record { right = right; counted = not (not on && eqb v 0); writes = on } ≡ turningOf regs right
+unfolding turningOf
+turning-as regs right eo es ev = rw (ev, es, eo)
+
+module _ (regs : List ℕ) (wet cd : ℤ) {b : Bool} (e : b ≡ bit 2 (registerAt regs 0x1AA)) where
+  pub input-with : {r : ℤ} → b ≡ true → r ≡ saturated (wet +ℤ cd) → r ≡ inputOf regs wet cd
+  unfolding inputOf
+  input-with t p = rw (← e, t, p)
+
+  pub input-without : {r : ℤ} → b ≡ false → r ≡ saturated wet → r ≡ inputOf regs wet cd
+  unfolding inputOf
+  input-without t p = rw (← e, t, p, plus-none wet)
+    where
+      plus-none : (z : ℤ) → z +ℤ pos 0 ≡ z
+      plus-none z = let s = add-is z (pos 0) in eq-parts _ _ (omega arith)
+
+module _ (regs : List ℕ) (b : Bool) (s : Sums) (left right : ℤ) {c x w r : ℤ} where
+  pub entering-right : b ≡ true → x ≡ right → c ≡ cdOf regs 0x1B2 x → w ≡ s .wet .right → r ≡ inputOf regs w c → r ≡ enteringOf regs b s left right
+  unfolding enteringOf
+  entering-right t ex ec ew er = rw (t, er, ew, ec, ex)
+
+  pub entering-left : b ≡ false → x ≡ left → c ≡ cdOf regs 0x1B0 x → w ≡ s .wet .left → r ≡ inputOf regs w c → r ≡ enteringOf regs b s left right
+  unfolding enteringOf
+  entering-left t ex ec ew er = rw (t, er, ew, ec, ex)
+
+module _ (size base : ℕ) (right : Bool) (place : ℕ) where
+  pub place-stays : not right ≡ true → place ≡ placeAfter size base right place
+  unfolding placeAfter
+  place-stays t = rw (not-true right t)
+
+  pub place-wraps : not right ≡ false → place + 2 ≡ size → base ≡ placeAfter size base right place
+  unfolding placeAfter
+  place-wraps t e = rw (not-false right t, eq-eqb (place + 2) size e)
+
+  pub place-moves : not right ≡ false → (place + 2 ≡ size → ⊥) → place + 2 ≡ placeAfter size base right place
+  unfolding placeAfter
+  place-moves t e = rw (not-false right t, ne-eqb (place + 2) size e)
+
+module _ (right : Bool) (h : Held) (out : ℤ) {a b : ℤ} where
+  pub hold-right : right ≡ true → a ≡ h .left → b ≡ out → record { left = a; right = b } ≡ heldOf right h out
+  unfolding heldOf
+  hold-right t p q = rw (t, p, q)
+
+  pub hold-left : right ≡ false → a ≡ out → b ≡ h .right → record { left = a; right = b } ≡ heldOf right h out
+  unfolding heldOf
+  hold-left t p q = rw (t, p, q)
+
+pub after-as : (size base : ℕ) (r : Reverb) (out : ℤ) {h : Held} {p : ℕ} {o : ℤ} → o ≡ out → h ≡ heldOf (r .right) (r .held) o
+    → p ≡ placeAfter size base (r .right) (r .place .0) → record { place = record { 0 = p }; right = not (r .right); held = h } ≡ reverbAfter size base r out
+unfolding reverbAfter
+after-as size base r out eo eh ep = rw (eh, ep, eo)
+
+pub area-in : {size base place : ℕ} {b : ByteAddress} → Sized size → PlaceIn size base place → b .0 ≡ base → AreaIn (record { size = size; base = b .0; place = place })
+area-in z p e = let l = p .least in let m = p .most in let k = z .least in record { least = omega arith; below = omega arith; most = z .most }
+
+-- b is the base, t how the turn is made, x what enters, o what leaves
+pub turn-does : (regs : List ℕ) (size : ℕ) (r : Reverb) (s : Sums) (left right : ℤ) {u : ℕ} {b : ByteAddress} {t : Turning} {x x′ o o′ l′ r′ : ℤ} {q : Reverb} {m n : Mem} → u ≡ registerAt regs 0x1A2
+    → b ≡ addressOf size (record { 0 = u }) → t ≡ turningOf regs (r .right) → x ≡ enteringOf regs (r .right) s l′ r′ → l′ ≡ left → r′ ≡ right → x′ ≡ x
+    → Does (turnOf regs (record { size = size; base = b .0; place = r .place .0 }) t x′) m o n → q ≡ reverbAfter size (b .0) r o′ → o′ ≡ o
+    → Does (reverbOf regs size r s left right) m q n
+unfolding reverbOf
+turn-does regs size r s left right {n} eu eb et ex el er ex′ d eq eo = does-bind _ (rw (et, ex′, ex, el, er, eb, eu) at d) (does-give n (rw (eq, eo, eb, eu)))
+
+-- ---- the whole tick
+
+pub tick-does : (s : State) (left right : ℤ) {c : ℕ} {z : Noise} {vs : List Voice} {sums : Sums} {r : Reverb} {p : Pair} {l₁ r₁ l₂ r₂ l₃ r₃ : ℤ} {t : ℕ} {j k m n : Mem} → c ≡ registerAt (s .regs) 0x1AA → z ≡ tickedOf (s .noise) c
+    → Does (repeat (voiceAt (s .choices .size) (s .regs) (z .level)) 24 (record { voices = s .voices; sums = noSums })) j (record { voices = vs; sums = sums }) k
+    → l₁ ≡ left → r₁ ≡ right → Does (captureOf (s .capture) l₁ r₁ (sums .captured)) k tt m
+    → l₂ ≡ left → r₂ ≡ right → Does (reverbOf (s .regs) (s .choices .size) (s .reverb) sums l₂ r₂) m r n
+    → l₃ ≡ left → r₃ ≡ right → p ≡ pairOf (s .regs) (s .reverb .held) sums l₃ r₃ → t ≡ (s .tick + 1) % 2 ^ 32
+    → Does (tickOf s left right) j (record {
+      answer = p;
+      state = record {
+        choices = s .choices;
+        regs = s .regs;
+        voices = vs;
+        noise = z;
+        control = record { applied = c % 0x40; latch = s .control .latch; doubt = s .control .doubt };
+        capture = captureNext (s .capture);
+        reverb = r;
+        transfer = s .transfer;
+        tick = t;
+      };
+    }) n
+unfolding tickOf
+tick-does s left right {n} ec ez dv el er dc el′ er′ dr el″ er″ ep et =
+    does-bind _ (rw (ez, ec) at dv) (does-bind _ (rw (el, er) at dc) (does-bind _ (rw (el′, er′) at dr) (does-give n (rw (ep, el″, er″, et, ez, ec)))))
