@@ -75,7 +75,7 @@ digit-small b e = let h = digit-most b in omega (arith, e)
 -- ---- up to a limit
 
 -- what is already past the limit may be held to it before a digit joins
-limited : (n base d limit : ℕ) → 0 < base → min (min n limit * base + d) limit ≡ min (n * base + d) limit
+pub limited : (n base d limit : ℕ) → 0 < base → min (min n limit * base + d) limit ≡ min (n * base + d) limit
 limited n base d limit h = by (decLe n limit)
   where
     by : Dec (n ≤ limit) → min (min n limit * base + d) limit ≡ min (n * base + d) limit
