@@ -1,18 +1,13 @@
 use Rattle.answers.proofs.Laws.{is-number, number-bits, no-bits}
 use Rattle.answers.proofs.bits.Statement.{statement}
 use Rattle.answers.proofs.bits.Tie as tie
-use Rattle.answers.proofs.bits.Reads as reads
-use Rattle.answers.proofs.bits.Lts as lts
 
--- src/lib.rt:184:16
 float-to-bits-result : tie.Need-float-to-bits-result
 float-to-bits-result c = search is-number
 
--- src/lib.rt:184:9
 returns : tie.Need-returns
 returns c = search number-bits
 
--- src/lib.rt:180:1
 returns-2 : tie.Need-returns-2
 returns-2 c = search no-bits
 

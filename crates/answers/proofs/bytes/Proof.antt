@@ -7,10 +7,6 @@ use mathlib.Core.Path.{_≡_}
 use Prim.Native.Nat.{_+_, _-_, _≤_}
 use Rattle.answers.proofs.bytes.Statement.{statement}
 use Rattle.answers.proofs.bytes.Tie as tie
-use Rattle.answers.proofs.bytes.Reads as reads
-use Rattle.answers.proofs.bytes.Lts as lts
-use Rattle.answers.proofs.byte_at.Reads as byte-at-reads
-use Rattle.text.proofs.put_hex.Reads as put-hex-reads
 
 abbrev Inv-loop : tie.InvT-loop
 Inv-loop out₀ place values from n at₀ k₀ out at k = (k ≤ n) × (length out ≡ length out₀) × Left (bytesFrom values from n) out₀ place (bytesFrom values (from + k) (n - k)) out at
@@ -18,43 +14,33 @@ Inv-loop out₀ place values from n at₀ k₀ out at k = (k ≤ n) × (length o
 abbrev μ-loop : tie.MeasureT-loop
 μ-loop out₀ place values from n at₀ k₀ out at k = n - k
 
--- src/lib.rt:243:5
 loop-holds : tie.Need-loop-holds Inv-loop μ-loop
 loop-holds c = search (bytes-all, needs)
 
--- src/lib.rt:244:53
 add-byte-at : tie.Need-add-byte-at Inv-loop μ-loop
 add-byte-at c = search needs
 
--- src/lib.rt:244:37
 byte-at-requires : tie.Need-byte-at-requires Inv-loop μ-loop
 byte-at-requires c κs = search needs
 
--- src/lib.rt:244:37
 cast-put-hex : tie.Need-cast-put-hex Inv-loop μ-loop
 cast-put-hex c = search needs
 
--- src/lib.rt:244:9
 put-hex-requires : tie.Need-put-hex-requires Inv-loop μ-loop
 put-hex-requires c κs = search needs
 
--- src/lib.rt:245:9
 add-k : tie.Need-add-k Inv-loop μ-loop
 add-k c = search needs
 
--- src/lib.rt:243:5
 loop-less : tie.Need-loop-less Inv-loop μ-loop
 loop-less c = search needs
 
--- src/lib.rt:243:5
 loop-again : tie.Need-loop-again Inv-loop μ-loop
 loop-again c = search (bytes-more, needs)
 
--- src/lib.rt:237:1
 same-length : tie.Need-same-length Inv-loop μ-loop
 same-length c = search needs
 
--- src/lib.rt:237:1
 returns : tie.Need-returns Inv-loop μ-loop
 returns c = search (bytes-none, needs)
 

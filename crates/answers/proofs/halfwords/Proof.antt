@@ -7,10 +7,6 @@ use mathlib.Core.Path.{_≡_}
 use Prim.Native.Nat.{_+_, _-_, _≤_}
 use Rattle.answers.proofs.halfwords.Statement.{statement}
 use Rattle.answers.proofs.halfwords.Tie as tie
-use Rattle.answers.proofs.halfwords.Reads as reads
-use Rattle.answers.proofs.halfwords.Lts as lts
-use Rattle.answers.proofs.hex_part.Reads as hex-part-reads
-use Rattle.answers.proofs.wide.Reads as wide-reads
 
 abbrev Inv-loop : tie.InvT-loop
 Inv-loop out₀ place values at₀ i₀ out at i = (i ≤ length values) × (length out ≡ length out₀) × Left (halfwordsFrom values 0 (length values)) out₀ place (halfwordsFrom values i (length values - i)) out at
@@ -18,43 +14,33 @@ Inv-loop out₀ place values at₀ i₀ out at i = (i ≤ length values) × (len
 abbrev μ-loop : tie.MeasureT-loop
 μ-loop out₀ place values at₀ i₀ out at i = length values - i
 
--- src/lib.rt:130:5
 loop-holds : tie.Need-loop-holds Inv-loop μ-loop
 loop-holds c = search (halfwords-all, needs)
 
--- src/lib.rt:131:37
 mul-wide : tie.Need-mul-wide Inv-loop μ-loop
 mul-wide c = search needs
 
--- src/lib.rt:131:37
 shared-slice-read-wide : tie.Need-shared-slice-read-wide Inv-loop μ-loop
 shared-slice-read-wide c = search needs
 
--- src/lib.rt:131:32
 wide-requires : tie.Need-wide-requires Inv-loop μ-loop
 wide-requires c κs = search needs
 
--- src/lib.rt:131:9
 hex-part-requires : tie.Need-hex-part-requires Inv-loop μ-loop
 hex-part-requires c κs = search needs
 
--- src/lib.rt:132:9
 add-i : tie.Need-add-i Inv-loop μ-loop
 add-i c = search needs
 
--- src/lib.rt:130:5
 loop-less : tie.Need-loop-less Inv-loop μ-loop
 loop-less c = search needs
 
--- src/lib.rt:130:5
 loop-again : tie.Need-loop-again Inv-loop μ-loop
 loop-again c = search (halfwords-more, needs)
 
--- src/lib.rt:125:1
 same-length : tie.Need-same-length Inv-loop μ-loop
 same-length c = search needs
 
--- src/lib.rt:125:1
 returns : tie.Need-returns Inv-loop μ-loop
 returns c = search (halfwords-none, needs)
 

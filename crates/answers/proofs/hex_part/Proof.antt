@@ -3,24 +3,16 @@ use Rattle.answers.specs.Answer.{hexPart}
 use borrow.Author.Needs.{needs}
 use Rattle.answers.proofs.hex_part.Statement.{statement}
 use Rattle.answers.proofs.hex_part.Tie as tie
-use Rattle.answers.proofs.hex_part.Reads as reads
-use Rattle.answers.proofs.hex_part.Lts as lts
-use Rattle.text.proofs.put_byte.Reads as put-byte-reads
-use Rattle.text.proofs.put_hex.Reads as put-hex-reads
 
--- src/lib.rt:35:9
 put-byte-requires : tie.Need-put-byte-requires
 put-byte-requires c κs = search needs
 
--- src/lib.rt:36:5
 put-hex-requires : tie.Need-put-hex-requires
 put-hex-requires c κs = search needs
 
--- src/lib.rt:31:1
 same-length : tie.Need-same-length
 same-length c = search needs
 
--- src/lib.rt:31:1
 returns : tie.Need-returns
 unfolding hexPart
 returns c = search prints-byte

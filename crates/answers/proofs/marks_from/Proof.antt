@@ -7,10 +7,6 @@ use mathlib.Core.Path.{_≡_}
 use Prim.Native.Nat.{_+_, _-_, _≤_}
 use Rattle.answers.proofs.marks_from.Statement.{statement}
 use Rattle.answers.proofs.marks_from.Tie as tie
-use Rattle.answers.proofs.marks_from.Reads as reads
-use Rattle.answers.proofs.marks_from.Lts as lts
-use Rattle.answers.proofs.marked.Reads as marked-reads
-use Rattle.text.proofs.put_flag.Reads as put-flag-reads
 
 abbrev Inv-loop : tie.InvT-loop
 Inv-loop out₀ place values from n at₀ k₀ out at k = (k ≤ n) × (length out ≡ length out₀) × Left (marksFrom values from (n)) out₀ place (marksFrom values (from + k) (n - k)) out at
@@ -18,43 +14,33 @@ Inv-loop out₀ place values from n at₀ k₀ out at k = (k ≤ n) × (length o
 abbrev μ-loop : tie.MeasureT-loop
 μ-loop out₀ place values from n at₀ k₀ out at k = n - k
 
--- src/lib.rt:228:5
 loop-holds : tie.Need-loop-holds Inv-loop μ-loop
 loop-holds c = search (marks-all, needs)
 
--- src/lib.rt:229:69
 cast-marked : tie.Need-cast-marked Inv-loop μ-loop
 cast-marked c = search needs
 
--- src/lib.rt:229:53
 add-marked : tie.Need-add-marked Inv-loop μ-loop
 add-marked c = search needs
 
--- src/lib.rt:229:38
 marked-requires : tie.Need-marked-requires Inv-loop μ-loop
 marked-requires c κs = search needs
 
--- src/lib.rt:229:9
 put-flag-requires : tie.Need-put-flag-requires Inv-loop μ-loop
 put-flag-requires c κs = search needs
 
--- src/lib.rt:230:9
 add-k : tie.Need-add-k Inv-loop μ-loop
 add-k c = search needs
 
--- src/lib.rt:228:5
 loop-less : tie.Need-loop-less Inv-loop μ-loop
 loop-less c = search needs
 
--- src/lib.rt:228:5
 loop-again : tie.Need-loop-again Inv-loop μ-loop
 loop-again c = search (marks-more, needs)
 
--- src/lib.rt:223:1
 same-length : tie.Need-same-length Inv-loop μ-loop
 same-length c = search needs
 
--- src/lib.rt:223:1
 returns : tie.Need-returns Inv-loop μ-loop
 returns c = search (marks-none, needs)
 

@@ -3,33 +3,22 @@ use Rattle.answers.specs.Answer.{refusedText}
 use borrow.Author.Needs.{needs}
 use Rattle.answers.proofs.refused.Statement.{statement}
 use Rattle.answers.proofs.refused.Tie as tie
-use Rattle.answers.proofs.refused.Reads as reads
-use Rattle.answers.proofs.refused.Lts as lts
-use Rattle.answers.proofs.decimal_part.Reads as decimal-part-reads
-use Rattle.text.proofs.put_byte.Reads as put-byte-reads
-use Rattle.text.proofs.put_text.Reads as put-text-reads
 
--- src/lib.rt:258:40
 slice-aggregate-put-text : tie.Need-slice-aggregate-put-text
 slice-aggregate-put-text c = search needs
 
--- src/lib.rt:258:9
 put-text-requires : tie.Need-put-text-requires
 put-text-requires c κs = search needs
 
--- src/lib.rt:259:9
 decimal-part-requires : tie.Need-decimal-part-requires
 decimal-part-requires c κs = search needs
 
--- src/lib.rt:260:5
 put-byte-requires : tie.Need-put-byte-requires
 put-byte-requires c κs = search needs
 
--- src/lib.rt:255:1
 same-length : tie.Need-same-length
 same-length c = search needs
 
--- src/lib.rt:255:1
 returns : tie.Need-returns
 unfolding refusedText
 returns c = search prints-then

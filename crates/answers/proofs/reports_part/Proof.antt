@@ -3,23 +3,16 @@ use Rattle.answers.specs.Answer.{reportsPart}
 use borrow.Author.Needs.{needs}
 use Rattle.answers.proofs.reports_part.Statement.{statement}
 use Rattle.answers.proofs.reports_part.Tie as tie
-use Rattle.answers.proofs.reports_part.Reads as reads
-use Rattle.answers.proofs.reports_part.Lts as lts
-use Rattle.answers.proofs.flag_part.Reads as flag-part-reads
 
--- src/lib.rt:42:9
 flag-part-requires : tie.Need-flag-part-requires
 flag-part-requires c κs = search needs
 
--- src/lib.rt:43:5
 flag-part-requires-2 : tie.Need-flag-part-requires-2
 flag-part-requires-2 c κs = search needs
 
--- src/lib.rt:39:1
 same-length : tie.Need-same-length
 same-length c = search needs
 
--- src/lib.rt:39:1
 returns : tie.Need-returns
 unfolding reportsPart
 returns c = search prints-then

@@ -3,60 +3,41 @@ use Rattle.commands.specs.Command.{dataOf}
 use borrow.Author.Needs.{needs}
 use Rattle.commands.proofs.data.Statement.{statement}
 use Rattle.commands.proofs.data.Tie as tie
-use Rattle.commands.proofs.data.Reads as reads
-use Rattle.commands.proofs.data.Lts as lts
-use Rattle.commands.proofs.inward_line.Reads as inward-line-reads
-use Rattle.commands.proofs.outward_line.Reads as outward-line-reads
-use Rattle.commands.proofs.read_line.Reads as read-line-reads
-use Rattle.commands.proofs.run.Reads as run-reads
-use Rattle.commands.proofs.word.Reads as word-reads
-use Rattle.commands.proofs.write_line.Reads as write-line-reads
 
--- src/lib.rt:253:9
 word-requires : tie.Need-word-requires
 word-requires c κs = search needs
 
--- src/lib.rt:255:9
 write-line-requires : tie.Need-write-line-requires
 write-line-requires c κs = search needs
 
--- src/lib.rt:255:9
 returns : tie.Need-returns
 unfolding dataOf
 returns c = search chosen-here
 
--- src/lib.rt:258:9
 read-line-requires : tie.Need-read-line-requires
 read-line-requires c κs = search needs
 
--- src/lib.rt:258:9
 returns-2 : tie.Need-returns-2
 unfolding dataOf
 returns-2 c = search (chosen-here, chosen-later)
 
--- src/lib.rt:261:9
 inward-line-requires : tie.Need-inward-line-requires
 inward-line-requires c κs = search needs
 
--- src/lib.rt:261:9
 returns-3 : tie.Need-returns-3
 unfolding dataOf
 returns-3 c = search (chosen-here, chosen-later)
 
--- src/lib.rt:264:9
 outward-line-requires : tie.Need-outward-line-requires
 outward-line-requires c κs = search needs
 
--- src/lib.rt:264:9
 returns-4 : tie.Need-returns-4
 unfolding dataOf
 returns-4 c = search (chosen-here, chosen-later)
 
--- src/lib.rt:266:5
 run-requires : tie.Need-run-requires
 run-requires c κs = search needs
 
--- src/lib.rt:250:1
 returns-5 : tie.Need-returns-5
 unfolding dataOf
 returns-5 c = search (chosen-later, chosen-other)

@@ -2,19 +2,14 @@ use Rattle.commands.proofs.Laws.{pick, pass, one-or-more}
 use Rattle.commands.specs.Command.{inwardOf}
 use Rattle.commands.proofs.inward_line.Statement.{statement}
 use Rattle.commands.proofs.inward_line.Tie as tie
-use Rattle.commands.proofs.inward_line.Reads as reads
-use Rattle.commands.proofs.inward_line.Lts as lts
 
--- src/lib.rt:56:41
 sub-t7 : tie.Need-sub-t7
 sub-t7 c = search one-or-more
 
--- src/lib.rt:56:9
 returns : tie.Need-returns
 unfolding inwardOf
 returns c = search pick
 
--- src/lib.rt:51:1
 returns-2 : tie.Need-returns-2
 unfolding inwardOf
 returns-2 c = search pass

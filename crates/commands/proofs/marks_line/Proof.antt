@@ -3,36 +3,26 @@ use Rattle.commands.specs.Command.{marksOf}
 use borrow.Author.Needs.{needs}
 use Rattle.commands.proofs.marks_line.Statement.{statement}
 use Rattle.commands.proofs.marks_line.Tie as tie
-use Rattle.commands.proofs.marks_line.Reads as reads
-use Rattle.commands.proofs.marks_line.Lts as lts
-use Rattle.commands.proofs.ranged.Reads as ranged-reads
 
--- src/lib.rt:191:13
 array-copy-out-a : tie.Need-array-copy-out-a
 array-copy-out-a c = search needs
 
--- src/lib.rt:192:13
 array-copy-out-b : tie.Need-array-copy-out-b
 array-copy-out-b c = search needs
 
--- src/lib.rt:193:26
 ranged-requires : tie.Need-ranged-requires
 ranged-requires c κs = search needs
 
--- src/lib.rt:195:22
 cast-t19 : tie.Need-cast-t19
 cast-t19 c = search needs
 
--- src/lib.rt:196:20
 cast-t21 : tie.Need-cast-t21
 cast-t21 c = search needs
 
--- src/lib.rt:194:9
 returns : tie.Need-returns
 unfolding marksOf
 returns c = search (pick-2, needs)
 
--- src/lib.rt:187:1
 returns-2 : tie.Need-returns-2
 unfolding marksOf
 returns-2 c = search (pass-2, needs)

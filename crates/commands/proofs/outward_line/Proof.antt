@@ -3,28 +3,20 @@ use Rattle.commands.specs.Command.{outwardOf}
 use borrow.Author.Needs.{needs}
 use Rattle.commands.proofs.outward_line.Statement.{statement}
 use Rattle.commands.proofs.outward_line.Tie as tie
-use Rattle.commands.proofs.outward_line.Reads as reads
-use Rattle.commands.proofs.outward_line.Lts as lts
-use Rattle.lines.proofs.is_count.Reads as is-count-reads
 
--- src/lib.rt:93:13
 array-copy-out-a : tie.Need-array-copy-out-a
 array-copy-out-a c = search needs
 
--- src/lib.rt:94:25
 is-count-requires : tie.Need-is-count-requires
 is-count-requires c κs = search needs
 
--- src/lib.rt:95:42
 cast-t11 : tie.Need-cast-t11
 cast-t11 c = search needs
 
--- src/lib.rt:95:9
 returns : tie.Need-returns
 unfolding outwardOf
 returns c = search pick-1
 
--- src/lib.rt:89:1
 returns-2 : tie.Need-returns-2
 unfolding outwardOf
 returns-2 c = search pass-1

@@ -3,28 +3,20 @@ use Rattle.commands.specs.Command.{plainOf}
 use borrow.Author.Needs.{needs}
 use Rattle.commands.proofs.plain_line.Statement.{statement}
 use Rattle.commands.proofs.plain_line.Tie as tie
-use Rattle.commands.proofs.plain_line.Reads as reads
-use Rattle.commands.proofs.plain_line.Lts as lts
-use Rattle.lines.proofs.is_count.Reads as is-count-reads
 
--- src/lib.rt:104:13
 array-copy-out-a : tie.Need-array-copy-out-a
 array-copy-out-a c = search needs
 
--- src/lib.rt:105:25
 is-count-requires : tie.Need-is-count-requires
 is-count-requires c κs = search needs
 
--- src/lib.rt:108:20
 cast-t12 : tie.Need-cast-t12
 cast-t12 c = search needs
 
--- src/lib.rt:106:9
 returns : tie.Need-returns
 unfolding plainOf
 returns c = search pick-1
 
--- src/lib.rt:100:1
 returns-2 : tie.Need-returns-2
 unfolding plainOf
 returns-2 c = search pass-1

@@ -3,36 +3,26 @@ use Rattle.commands.specs.Command.{ramOf}
 use borrow.Author.Needs.{needs}
 use Rattle.commands.proofs.ram_line.Statement.{statement}
 use Rattle.commands.proofs.ram_line.Tie as tie
-use Rattle.commands.proofs.ram_line.Reads as reads
-use Rattle.commands.proofs.ram_line.Lts as lts
-use Rattle.commands.proofs.ranged.Reads as ranged-reads
 
--- src/lib.rt:176:13
 array-copy-out-a : tie.Need-array-copy-out-a
 array-copy-out-a c = search needs
 
--- src/lib.rt:177:13
 array-copy-out-b : tie.Need-array-copy-out-b
 array-copy-out-b c = search needs
 
--- src/lib.rt:178:25
 ranged-requires : tie.Need-ranged-requires
 ranged-requires c κs = search needs
 
--- src/lib.rt:180:22
 cast-t15 : tie.Need-cast-t15
 cast-t15 c = search needs
 
--- src/lib.rt:181:20
 cast-t17 : tie.Need-cast-t17
 cast-t17 c = search needs
 
--- src/lib.rt:179:9
 returns : tie.Need-returns
 unfolding ramOf
 returns c = search pick-1
 
--- src/lib.rt:172:1
 returns-2 : tie.Need-returns-2
 unfolding ramOf
 returns-2 c = search pass-1

@@ -3,15 +3,11 @@ use Rattle.commands.proofs.Laws.{pick, pass}
 use Rattle.commands.specs.Command.{resetOf}
 use Rattle.commands.proofs.reset_line.Statement.{statement}
 use Rattle.commands.proofs.reset_line.Tie as tie
-use Rattle.commands.proofs.reset_line.Reads as reads
-use Rattle.commands.proofs.reset_line.Lts as lts
 
--- src/lib.rt:123:9
 returns : tie.Need-returns
 unfolding resetOf
 returns c = search (pick, eq-eqb)
 
--- src/lib.rt:119:1
 returns-2 : tie.Need-returns-2
 unfolding resetOf
 returns-2 c = search (pass, ne-eqb)

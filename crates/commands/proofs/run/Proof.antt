@@ -3,59 +3,41 @@ use Rattle.commands.specs.Command.{runOf}
 use borrow.Author.Needs.{needs}
 use Rattle.commands.proofs.run.Statement.{statement}
 use Rattle.commands.proofs.run.Tie as tie
-use Rattle.commands.proofs.run.Reads as reads
-use Rattle.commands.proofs.run.Lts as lts
-use Rattle.commands.proofs.raw.Reads as raw-reads
-use Rattle.commands.proofs.reset_line.Reads as reset-line-reads
-use Rattle.commands.proofs.tick_line.Reads as tick-line-reads
-use Rattle.commands.proofs.view_line.Reads as view-line-reads
-use Rattle.commands.proofs.word.Reads as word-reads
 
--- src/lib.rt:234:9
 word-requires : tie.Need-word-requires
 word-requires c κs = search needs
 
--- src/lib.rt:236:9
 tick-line-requires : tie.Need-tick-line-requires
 tick-line-requires c κs = search needs
 
--- src/lib.rt:236:9
 returns : tie.Need-returns
 unfolding runOf
 returns c = search chosen-here
 
--- src/lib.rt:239:9
 tick-line-requires-2 : tie.Need-tick-line-requires-2
 tick-line-requires-2 c κs = search needs
 
--- src/lib.rt:239:9
 returns-2 : tie.Need-returns-2
 unfolding runOf
 returns-2 c = search (chosen-here, chosen-later)
 
--- src/lib.rt:242:9
 view-line-requires : tie.Need-view-line-requires
 view-line-requires c κs = search needs
 
--- src/lib.rt:242:9
 returns-3 : tie.Need-returns-3
 unfolding runOf
 returns-3 c = search (chosen-here, chosen-later)
 
--- src/lib.rt:245:9
 reset-line-requires : tie.Need-reset-line-requires
 reset-line-requires c κs = search needs
 
--- src/lib.rt:245:9
 returns-4 : tie.Need-returns-4
 unfolding runOf
 returns-4 c = search (chosen-here, chosen-later)
 
--- src/lib.rt:247:5
 raw-requires : tie.Need-raw-requires
 raw-requires c κs = search needs
 
--- src/lib.rt:231:1
 returns-5 : tie.Need-returns-5
 unfolding runOf
 returns-5 c = search (chosen-later, chosen-other)

@@ -6,8 +6,6 @@ use mathlib.Core.Path.{_≡_}
 use Prim.Native.Nat.{_≤_, _-_}
 use Rattle.commands.proofs.values.Statement.{statement}
 use Rattle.commands.proofs.values.Tie as tie
-use Rattle.commands.proofs.values.Reads as reads
-use Rattle.commands.proofs.values.Lts as lts
 
 abbrev Inv-loop : tie.InvT-loop
 Inv-loop fields out₀ n₀ out n = (n ≤ 33) × (length out ≡ 33) × (out ≡ valuesOf fields n)
@@ -15,47 +13,36 @@ Inv-loop fields out₀ n₀ out n = (n ≤ 33) × (length out ≡ 33) × (out �
 abbrev μ-loop : tie.MeasureT-loop
 μ-loop fields out₀ n₀ out n = 33 - n
 
--- src/lib.rt:95:5
 loop-holds : tie.Need-loop-holds Inv-loop μ-loop
 loop-holds c = search (values-none, needs)
 
--- src/lib.rt:96:24
 add-f : tie.Need-add-f Inv-loop μ-loop
 add-f c = search needs
 
--- src/lib.rt:96:17
 mul-f : tie.Need-mul-f Inv-loop μ-loop
 mul-f c = search needs
 
--- src/lib.rt:96:17
 array-copy-out-f : tie.Need-array-copy-out-f Inv-loop μ-loop
 array-copy-out-f c = search needs
 
--- src/lib.rt:97:18
 cast-out : tie.Need-cast-out Inv-loop μ-loop
 cast-out c = search needs
 
--- src/lib.rt:97:9
 mul-out : tie.Need-mul-out Inv-loop μ-loop
 mul-out c = search needs
 
--- src/lib.rt:97:9
 array-write-out : tie.Need-array-write-out Inv-loop μ-loop
 array-write-out c = search needs
 
--- src/lib.rt:95:9
 add-n : tie.Need-add-n Inv-loop μ-loop
 add-n c = search needs
 
--- src/lib.rt:95:5
 loop-less : tie.Need-loop-less Inv-loop μ-loop
 loop-less c = search needs
 
--- src/lib.rt:95:5
 loop-again : tie.Need-loop-again Inv-loop μ-loop
 loop-again c = search (values-more, needs)
 
--- src/lib.rt:90:1
 returns : tie.Need-returns Inv-loop μ-loop
 returns c = search (values-all, needs)
 

@@ -3,40 +3,29 @@ use Rattle.commands.specs.Command.{writeOf}
 use borrow.Author.Needs.{needs}
 use Rattle.commands.proofs.write_line.Statement.{statement}
 use Rattle.commands.proofs.write_line.Tie as tie
-use Rattle.commands.proofs.write_line.Reads as reads
-use Rattle.commands.proofs.write_line.Lts as lts
-use Rattle.lines.proofs.is_hex.Reads as is-hex-reads
 
--- src/lib.rt:29:13
 array-copy-out-a : tie.Need-array-copy-out-a
 array-copy-out-a c = search needs
 
--- src/lib.rt:30:13
 array-copy-out-b : tie.Need-array-copy-out-b
 array-copy-out-b c = search needs
 
--- src/lib.rt:31:26
 is-hex-requires : tie.Need-is-hex-requires
 is-hex-requires c κs = search needs
 
--- src/lib.rt:31:51
 is-hex-requires-2 : tie.Need-is-hex-requires-2
 is-hex-requires-2 c κs = search needs
 
--- src/lib.rt:33:21
 cast-t16 : tie.Need-cast-t16
 cast-t16 c = search needs
 
--- src/lib.rt:34:20
 cast-t18 : tie.Need-cast-t18
 cast-t18 c = search needs
 
--- src/lib.rt:32:9
 returns : tie.Need-returns
 unfolding writeOf
 returns c = search pick-2
 
--- src/lib.rt:25:1
 returns-2 : tie.Need-returns-2
 unfolding writeOf
 returns-2 c = search pass-2

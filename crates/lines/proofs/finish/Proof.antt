@@ -2,19 +2,13 @@ use Rattle.lines.proofs.Laws.{ended-same, ended-joined}
 use borrow.Author.Needs.{needs}
 use Rattle.lines.proofs.finish.Statement.{statement}
 use Rattle.lines.proofs.finish.Tie as tie
-use Rattle.lines.proofs.finish.Reads as reads
-use Rattle.lines.proofs.finish.Lts as lts
-use Rattle.lines.proofs.join.Reads as join-reads
 
--- src/lib.rt:168:9
 returns : tie.Need-returns
 returns c = search ended-same
 
--- src/lib.rt:170:5
 join-requires : tie.Need-join-requires
 join-requires c κs = search needs
 
--- src/lib.rt:164:1
 returns-2 : tie.Need-returns-2
 returns-2 c = search ended-joined
 

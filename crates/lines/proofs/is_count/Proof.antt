@@ -2,10 +2,7 @@ use Rattle.lines.specs.Line.{isCount}
 use mathlib.Core.Path.{refl}
 use Rattle.lines.proofs.is_count.Statement.{statement}
 use Rattle.lines.proofs.is_count.Tie as tie
-use Rattle.lines.proofs.is_count.Reads as reads
-use Rattle.lines.proofs.is_count.Lts as lts
 
--- src/lib.rt:103:1
 returns : tie.Need-returns
 unfolding isCount
 returns c = refl

@@ -2,10 +2,7 @@ use Rattle.lines.specs.Line.{isHex}
 use mathlib.Core.Path.{refl}
 use Rattle.lines.proofs.is_hex.Statement.{statement}
 use Rattle.lines.proofs.is_hex.Tie as tie
-use Rattle.lines.proofs.is_hex.Reads as reads
-use Rattle.lines.proofs.is_hex.Lts as lts
 
--- src/lib.rt:96:1
 returns : tie.Need-returns
 unfolding isHex
 returns c = refl

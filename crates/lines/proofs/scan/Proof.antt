@@ -6,9 +6,6 @@ use mathlib.Core.Path.{_≡_, refl}
 use Prim.Native.Nat.{_-_, _≤_}
 use Rattle.lines.proofs.scan.Statement.{statement}
 use Rattle.lines.proofs.scan.Tie as tie
-use Rattle.lines.proofs.scan.Reads as reads
-use Rattle.lines.proofs.scan.Lts as lts
-use Rattle.lines.proofs.feed.Reads as feed-reads
 
 abbrev Inv-loop : tie.InvT-loop
 Inv-loop bytes from line₀ i₀ line i = scanOf line i (drop i bytes) ≡ scanOf line₀ from (drop from bytes)
@@ -16,43 +13,33 @@ Inv-loop bytes from line₀ i₀ line i = scanOf line i (drop i bytes) ≡ scanO
 abbrev μ-loop : tie.MeasureT-loop
 μ-loop bytes from line₀ i₀ line i = length bytes - i
 
--- src/lib.rt:215:5
 loop-holds : tie.Need-loop-holds Inv-loop μ-loop
 loop-holds c = refl
 
--- src/lib.rt:216:12
 shared-slice-read-if1 : tie.Need-shared-slice-read-if1 Inv-loop μ-loop
 shared-slice-read-if1 c = search needs
 
--- src/lib.rt:219:21
 add-t10 : tie.Need-add-t10 Inv-loop μ-loop
 add-t10 c = search needs
 
--- src/lib.rt:217:13
 returns : tie.Need-returns Inv-loop μ-loop
 returns c = search (scan-end, needs)
 
--- src/lib.rt:223:27
 shared-slice-read-feed : tie.Need-shared-slice-read-feed Inv-loop μ-loop
 shared-slice-read-feed c = search needs
 
--- src/lib.rt:223:9
 feed-requires : tie.Need-feed-requires Inv-loop μ-loop
 feed-requires c κs = search needs
 
--- src/lib.rt:224:9
 add-i : tie.Need-add-i Inv-loop μ-loop
 add-i c = search needs
 
--- src/lib.rt:215:5
 loop-less : tie.Need-loop-less Inv-loop μ-loop
 loop-less c = search needs
 
--- src/lib.rt:215:5
 loop-again : tie.Need-loop-again Inv-loop μ-loop
 loop-again c = search (scan-more, needs)
 
--- src/lib.rt:210:1
 returns-2 : tie.Need-returns-2 Inv-loop μ-loop
 returns-2 c = search (scan-out, needs)
 

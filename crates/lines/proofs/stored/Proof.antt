@@ -2,22 +2,16 @@ use Rattle.lines.proofs.Laws.{set-past}
 use borrow.Author.Needs.{needs}
 use Rattle.lines.proofs.stored.Statement.{statement}
 use Rattle.lines.proofs.stored.Tie as tie
-use Rattle.lines.proofs.stored.Reads as reads
-use Rattle.lines.proofs.stored.Lts as lts
 
--- src/lib.rt:132:9
 mul-t : tie.Need-mul-t
 mul-t c = search needs
 
--- src/lib.rt:132:9
 array-set-from-t : tie.Need-array-set-from-t
 array-set-from-t c = search needs
 
--- src/lib.rt:133:9
 returns : tie.Need-returns
 returns c = search needs
 
--- src/lib.rt:127:1
 returns-2 : tie.Need-returns-2
 returns-2 c = search (set-past, needs)
 

@@ -6,9 +6,6 @@ use mathlib.Core.Path.{_≡_}
 use Prim.Native.Nat.{_-_, _≤_}
 use Rattle.sessions.proofs.fill.Statement.{statement}
 use Rattle.sessions.proofs.fill.Tie as tie
-use Rattle.sessions.proofs.fill.Reads as reads
-use Rattle.sessions.proofs.fill.Lts as lts
-use Rattle.sessions.proofs.store.Reads as store-reads
 
 abbrev Inv-loop : tie.InvT-loop
 Inv-loop ram₀ from n byte k₀ ram k = (k ≤ n) × (length ram ≡ length ram₀) × (ram ≡ filledOf ram₀ from byte k)
@@ -16,39 +13,30 @@ Inv-loop ram₀ from n byte k₀ ram k = (k ≤ n) × (length ram ≡ length ram
 abbrev μ-loop : tie.MeasureT-loop
 μ-loop ram₀ from n byte k₀ ram k = n - k
 
--- src/lib.rt:279:5
 loop-holds : tie.Need-loop-holds Inv-loop μ-loop
 loop-holds c = search (filled-none, needs)
 
--- src/lib.rt:280:36
 cast-store : tie.Need-cast-store Inv-loop μ-loop
 cast-store c = search needs
 
--- src/lib.rt:280:20
 add-store : tie.Need-add-store Inv-loop μ-loop
 add-store c = search needs
 
--- src/lib.rt:280:9
 store-requires : tie.Need-store-requires Inv-loop μ-loop
 store-requires c κs = search needs
 
--- src/lib.rt:281:9
 add-k : tie.Need-add-k Inv-loop μ-loop
 add-k c = search needs
 
--- src/lib.rt:279:5
 loop-less : tie.Need-loop-less Inv-loop μ-loop
 loop-less c = search needs
 
--- src/lib.rt:279:5
 loop-again : tie.Need-loop-again Inv-loop μ-loop
 loop-again c = search (filled-more, needs)
 
--- src/lib.rt:275:1
 same-length : tie.Need-same-length Inv-loop μ-loop
 same-length c = search needs
 
--- src/lib.rt:275:1
 returns : tie.Need-returns Inv-loop μ-loop
 returns c = search (filled-all, needs)
 

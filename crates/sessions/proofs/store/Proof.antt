@@ -2,22 +2,16 @@ use Rattle.sessions.proofs.Laws.{stored-past}
 use borrow.Author.Needs.{needs}
 use Rattle.sessions.proofs.store.Statement.{statement}
 use Rattle.sessions.proofs.store.Tie as tie
-use Rattle.sessions.proofs.store.Reads as reads
-use Rattle.sessions.proofs.store.Lts as lts
 
--- src/lib.rt:270:9
 slice-write-ram : tie.Need-slice-write-ram
 slice-write-ram c = search needs
 
--- src/lib.rt:266:1
 same-length : tie.Need-same-length
 same-length c = search needs
 
--- src/lib.rt:266:1
 returns : tie.Need-returns
 returns c = search needs
 
--- src/lib.rt:266:1
 returns-2 : tie.Need-returns-2
 returns-2 c = search stored-past
 

@@ -3,9 +3,6 @@ use lib.ListN.{length}
 use mathlib.Core.Path.{_≡_}
 use Rattle.sessions.proofs.take.Statement.{statement}
 use Rattle.sessions.proofs.take.Tie as tie
-use Rattle.sessions.proofs.take.Reads as reads
-use Rattle.sessions.proofs.take.Lts as lts
-use Rattle.sessions.proofs.step.Reads as step-reads
 
 abbrev Inv-loop : tie.InvT-loop
 Inv-loop ram₀ marks₀ out₀ input t₀ most₀ ram marks out t most = (length ram ≡ length ram₀) × (length marks ≡ length marks₀) × (length out ≡ length out₀)
@@ -13,55 +10,42 @@ Inv-loop ram₀ marks₀ out₀ input t₀ most₀ ram marks out t most = (lengt
 abbrev μ-loop : tie.MeasureT-loop
 μ-loop ram₀ marks₀ out₀ input t₀ most₀ ram marks out t most = most
 
--- src/lib.rt:389:5
 loop-holds : tie.Need-loop-holds Inv-loop μ-loop
 loop-holds c = search needs
 
--- src/lib.rt:391:13
 same-length : tie.Need-same-length Inv-loop μ-loop
 same-length c = search needs
 
--- src/lib.rt:391:13
 same-length-2 : tie.Need-same-length-2 Inv-loop μ-loop
 same-length-2 c = search needs
 
--- src/lib.rt:391:13
 same-length-3 : tie.Need-same-length-3 Inv-loop μ-loop
 same-length-3 c = search needs
 
--- src/lib.rt:391:13
 returns : tie.Need-returns Inv-loop μ-loop
 returns c = search needs
 
--- src/lib.rt:393:9
 step-requires : tie.Need-step-requires Inv-loop μ-loop
 step-requires c κs = search needs
 
--- src/lib.rt:394:9
 sub-most : tie.Need-sub-most Inv-loop μ-loop
 sub-most c = search needs
 
--- src/lib.rt:389:5
 loop-less : tie.Need-loop-less Inv-loop μ-loop
 loop-less c = search needs
 
--- src/lib.rt:389:5
 loop-again : tie.Need-loop-again Inv-loop μ-loop
 loop-again c = search needs
 
--- src/lib.rt:386:1
 same-length-4 : tie.Need-same-length-4 Inv-loop μ-loop
 same-length-4 c = search needs
 
--- src/lib.rt:386:1
 same-length-5 : tie.Need-same-length-5 Inv-loop μ-loop
 same-length-5 c = search needs
 
--- src/lib.rt:386:1
 same-length-6 : tie.Need-same-length-6 Inv-loop μ-loop
 same-length-6 c = search needs
 
--- src/lib.rt:386:1
 returns-2 : tie.Need-returns-2 Inv-loop μ-loop
 returns-2 c = search needs
 

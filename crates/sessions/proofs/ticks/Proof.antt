@@ -4,9 +4,6 @@ use mathlib.Core.Path.{_≡_}
 use Prim.Native.Nat.{_-_, _≤_}
 use Rattle.sessions.proofs.ticks.Statement.{statement}
 use Rattle.sessions.proofs.ticks.Tie as tie
-use Rattle.sessions.proofs.ticks.Reads as reads
-use Rattle.sessions.proofs.ticks.Lts as lts
-use Rattle.sessions.proofs.one_tick.Reads as one-tick-reads
 
 abbrev Inv-loop : tie.InvT-loop
 Inv-loop ram₀ marks₀ out₀ floats count left right t₀ k₀ ram marks out t k = (k ≤ count) × (length ram ≡ length ram₀) × (length marks ≡ length marks₀) × (length out ≡ length out₀)
@@ -14,39 +11,30 @@ Inv-loop ram₀ marks₀ out₀ floats count left right t₀ k₀ ram marks out 
 abbrev μ-loop : tie.MeasureT-loop
 μ-loop ram₀ marks₀ out₀ floats count left right t₀ k₀ ram marks out t k = count - k
 
--- src/lib.rt:253:5
 loop-holds : tie.Need-loop-holds Inv-loop μ-loop
 loop-holds c = search needs
 
--- src/lib.rt:254:9
 one-tick-requires : tie.Need-one-tick-requires Inv-loop μ-loop
 one-tick-requires c κs = search needs
 
--- src/lib.rt:255:9
 add-k : tie.Need-add-k Inv-loop μ-loop
 add-k c = search needs
 
--- src/lib.rt:253:5
 loop-less : tie.Need-loop-less Inv-loop μ-loop
 loop-less c = search needs
 
--- src/lib.rt:253:5
 loop-again : tie.Need-loop-again Inv-loop μ-loop
 loop-again c = search needs
 
--- src/lib.rt:241:1
 same-length : tie.Need-same-length Inv-loop μ-loop
 same-length c = search needs
 
--- src/lib.rt:241:1
 same-length-2 : tie.Need-same-length-2 Inv-loop μ-loop
 same-length-2 c = search needs
 
--- src/lib.rt:241:1
 same-length-3 : tie.Need-same-length-3 Inv-loop μ-loop
 same-length-3 c = search needs
 
--- src/lib.rt:241:1
 returns : tie.Need-returns Inv-loop μ-loop
 returns c = search needs
 

@@ -5,9 +5,6 @@ use mathlib.Core.Path.{_≡_}
 use Prim.Native.Nat.{_≤_, _<_, _-_}
 use Rattle.text.proofs.put_decimal.Statement.{statement}
 use Rattle.text.proofs.put_decimal.Tie as tie
-use Rattle.text.proofs.put_decimal.Reads as reads
-use Rattle.text.proofs.put_decimal.Lts as lts
-use Rattle.text.proofs.put_digits.Reads as put-digits-reads
 
 abbrev Inv-loop : tie.InvT-loop
 Inv-loop out place n k₀ power₀ k power = (0 < k) × (power ≡ powerAt 10 k) × (trimmed (digitsOf 10 n k) ≡ decimalText n)
@@ -15,35 +12,27 @@ Inv-loop out place n k₀ power₀ k power = (0 < k) × (power ≡ powerAt 10 k)
 abbrev μ-loop : tie.MeasureT-loop
 μ-loop out place n k₀ power₀ k power = k
 
--- src/lib.rt:69:5
 loop-holds : tie.Need-loop-holds Inv-loop μ-loop
 loop-holds c = search (decimal-all, decimal-power, needs)
 
--- src/lib.rt:69:22
 div-loop : tie.Need-div-loop Inv-loop μ-loop
 div-loop c = search (power-positive, needs)
 
--- src/lib.rt:71:9
 sub-k : tie.Need-sub-k Inv-loop μ-loop
 sub-k c = search needs
 
--- src/lib.rt:69:5
 loop-less : tie.Need-loop-less Inv-loop μ-loop
 loop-less c = search needs
 
--- src/lib.rt:69:5
 loop-again : tie.Need-loop-again Inv-loop μ-loop
 loop-again c = search (idle-more, power-next, trim-more, needs)
 
--- src/lib.rt:73:5
 put-digits-requires : tie.Need-put-digits-requires Inv-loop μ-loop
 put-digits-requires c κs = search (power-of, needs)
 
--- src/lib.rt:64:1
 same-length : tie.Need-same-length Inv-loop μ-loop
 same-length c = search needs
 
--- src/lib.rt:64:1
 returns : tie.Need-returns Inv-loop μ-loop
 returns c = search decimal-prints
 
