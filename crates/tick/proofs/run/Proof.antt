@@ -17,13 +17,13 @@ tick-requires-2 : tie.Need-tick-requires-2
 tick-requires-2 c κs = search needs
 
 capture-requires : tie.Need-capture-requires
-capture-requires c κs =
+capture-requires c κs = 
     let a = c .before .before .before in
     let b = a .before .before .before .before .before .before .before .before .before .before .before .before .before in
     (b .pre .0, b .pre .1 .capture .below)
 
 turn-requires : tie.Need-turn-requires
-turn-requires c κs =
+turn-requires c κs = 
     let a = c .before .before .before .before .before .before .before .before .before in
     let b = a .before .before .before .before in
     let d = b .before .before .before .before .before .before .before .before .before .before .before .before .before in
@@ -33,7 +33,7 @@ mixed-requires : tie.Need-mixed-requires
 mixed-requires c κs = search needs
 
 add-state : tie.Need-add-state
-add-state c =
+add-state c = 
     let a = c .before .before .before .before .before .before .before .before .before .before .before .before .before .before .before .before .before .before .before .before .before .before .before .before .before .before .before .before .before .before .before .before .before .before .before .before .before .before in
     let k = a .pre .1 .capture .below in omega arith
 
@@ -47,7 +47,7 @@ same-length-2 : tie.Need-same-length-2
 same-length-2 c = search needs
 
 returns : tie.Need-returns
-returns c =
+returns c = 
     let a = c .before .before .before .before in
     let b = a .before .before .before .before .before .before .before .before in
     let d = b .before .before .before .before .before .before .before .before .before .before in
