@@ -11,10 +11,10 @@ use borrow.Author.Tests.{ltb-true, leb-true, eqb-true, lt-ltb, le-leb, eq-eqb}
 use Rattle.soundram.specs.Address.{Sized}
 use Rattle.voice.specs.declared.Voice.{Voice}
 use Rattle.voice.specs.Range as voice
-use Rattle.voices.specs.Voices.{pastEnd}
+use Rattle.voices.specs.Voices.{pastEnd, AllIn}
 use Rattle.chip.specs.declared.State.{State}
-use Rattle.chip.specs.State.{allOf, sizeOk, voiceOk, everyOk, stateOk}
-use Rattle.chip.specs.Range.{Shaped, InRange}
+use Rattle.chip.specs.State.{allOf, sizeOk, voiceOk, everyOk, baseOf, stateOk}
+use Rattle.chip.specs.Range.{Shaped, CaptureIn, PlaceIn, TransferIn, InRange}
 
 -- ---- lists of tests
 
@@ -101,23 +101,40 @@ at-every size vs (suc n) f = rw (at-every size vs n (λ k h. f k (omega arith)))
 
 -- ---- the state
 
-pub in-range : (s : State) → stateOk s ≡ true → Shaped s → InRange s
-unfolding stateOk
-in-range s o n =
-    let a = of-all _ o in
-    record {
-      shaped = n;
-      size = nth 0 a;
-      voices = record { each = λ k h. every-at _ (s .voices) 24 k (nth 1 a) h };
-      capture = record { even = eqb-true _ _ (nth 2 a); below = ltb-true _ _ (nth 3 a) };
-      place = record { even = eqb-true _ _ (nth 4 a); least = leb-true _ _ (nth 5 a); most = leb-true _ _ (nth 6 a) };
-      transfer = record { even = eqb-true _ _ (nth 7 a); below = ltb-true _ _ (nth 8 a) };
-      noise = record { timer = leb-true _ _ (nth 9 a) };
-    }
+module _ (s : State) (o : stateOk s ≡ true) where
+  pub ok-sized : Sized (s .choices .size)
+  unfolding stateOk
+  ok-sized = sized _ (nth 0 (of-all _ o))
 
-pub ok-sized : (s : State) → stateOk s ≡ true → Sized (s .choices .size)
-unfolding stateOk
-ok-sized s o = sized _ (nth 0 (of-all _ o))
+  pub ok-voices : AllIn (s .choices .size) (s .voices)
+  unfolding stateOk
+  ok-voices = record { each = λ k h. every-at _ (s .voices) 24 k (nth 1 (of-all _ o)) h }
+
+  pub ok-capture : CaptureIn (s .capture)
+  unfolding stateOk
+  ok-capture = let a = of-all _ o in record { even = eqb-true _ _ (nth 2 a); below = ltb-true _ _ (nth 3 a) }
+
+  pub ok-place : PlaceIn (s .choices .size) (baseOf s .0) (s .reverb .place .0)
+  unfolding stateOk
+  ok-place = let a = of-all _ o in record { even = eqb-true _ _ (nth 4 a); least = leb-true _ _ (nth 5 a); most = leb-true _ _ (nth 6 a) }
+
+  pub ok-transfer : TransferIn (s .choices .size) (s .transfer)
+  unfolding stateOk
+  ok-transfer = let a = of-all _ o in record { even = eqb-true _ _ (nth 7 a); below = ltb-true _ _ (nth 8 a) }
+
+  pub in-range : Shaped s → InRange s
+  unfolding stateOk
+  in-range n =
+      let a = of-all _ o in
+      record {
+        shaped = n;
+        size = nth 0 a;
+        voices = ok-voices;
+        capture = ok-capture;
+        place = ok-place;
+        transfer = ok-transfer;
+        noise = record { timer = leb-true _ _ (nth 9 a) };
+      }
 
 pub passes : (s : State) → InRange s → stateOk s ≡ true
 unfolding stateOk

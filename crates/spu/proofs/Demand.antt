@@ -14,7 +14,8 @@ use Rattle.chip.specs.declared.State.{State}
 use Rattle.chip.specs.State.{freshOf, watchOf, watchedOf}
 use Rattle.chip.proofs.Writes.{of-both, write-doubt}
 use Rattle.spu.specs.Step.{Call, write, read, transferIn, transferOut, tick, tickFloats, reset, view, Answer, numberOf, acceptedOf, stepOf, chip}
-use Rattle.spu.proofs.Safe.{safe-inward, safe-outward, safe-tick}
+use Rattle.transfer.proofs.Moves.{safe-inward, safe-outward}
+use Rattle.tick.proofs.Safe.{safe-tick}
 
 accepted-safe : (c : Call) (s : State) → SafeDoing (acceptedOf c s)
 unfolding acceptedOf

@@ -1,4 +1,4 @@
-pub mod Safe
 pub mod Demand
 pub mod Range
 pub mod Numbers
+pub mod Lent

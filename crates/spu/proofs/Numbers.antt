@@ -1,15 +1,16 @@
--- Calls that touch no memory, from the numbers that they give. Assumes nothing.
+-- The numbers that calls give, and calls that touch no memory. Assumes nothing.
 use mathlib.Core.Path.{_≡_, refl, sym, _∙_}
-use mathlib.Core.Bool.{Bool, true, false, not}
+use mathlib.Core.Bool.{Bool, true, false, _||_, not}
 use mathlib.Core.List.{List, [], _∷_}
-use Prim.Native.Nat.{ℕ, _<_}
+use Prim.Native.Nat.{ℕ, _/_, _≤_, _<_}
 use native.Mathlib.Omega.{arith}
+use lib.Dec.{eqb}
 use borrow.Author.Tests.{eq-eqb, ne-eqb, not-false}
 use Rattle.chip.specs.declared.State.{State}
 use Rattle.chip.specs.State.{freshOf, sizeOk, stateOk}
 use Rattle.chip.specs.Registers.{listed, readOnly, notWritten, notRead, writeOf, readOf}
 use Rattle.chip.proofs.Tests.{ok-sized}
-use Rattle.spu.specs.Step.{write, read, reset, written, value, made, Test, test, firstOf, numberOf, refusedOf, acceptedOf, stepOf, Gives, makeOf}
+use Rattle.spu.specs.Step.{write, read, reset, view, written, value, made, Test, test, firstOf, modeOf, badCount, badBlock, lentTests, inTests, outTests, numberOf, refusedOf, acceptedOf, stepOf, Gives, makeOf}
 use Rattle.spu.proofs.Range.{accepted-ok, accepted-listed, passed-first, passed-rest}
 
 -- ---- making
@@ -71,6 +72,72 @@ read-5 offset g = here _ 5 _ (eq-eqb offset 0x1A8 g)
 pub read-0 : (offset : ℕ) → (offset ≡ 0x1A8 → ⊥) → 0 ≡ firstOf (test (notRead offset) 5 ∷ [])
 read-0 offset g = later _ 5 _ (ne-eqb offset 0x1A8 g) none
 
+-- what is lent and the state: n is the code's number of both
+module _ (s : State) (ram marks : ℕ) (ts : List Test) {n : ℕ} (e : n ≡ firstOf (lentTests s ram marks [])) where
+  pub lent-refused : (n ≡ 0 → ⊥) → n ≡ firstOf (lentTests s ram marks ts)
+  unfolding firstOf
+  lent-refused z = by (not (eqb ram (s .choices .size)) || not (eqb marks (s .choices .size / 16))) (not (stateOk s)) e
+    where
+      by : (a b : Bool) → n ≡ firstOf (test a 1 ∷ test b 2 ∷ []) → n ≡ firstOf (test a 1 ∷ test b 2 ∷ ts)
+      by true b f = f
+      by false true f = f
+      by false false f = absurd (z f)
+
+  pub lent-passed : {m : ℕ} → n ≡ 0 → m ≡ firstOf ts → m ≡ firstOf (lentTests s ram marks ts)
+  lent-passed z f =
+      let g = sym e ∙ z in
+      later _ 1 _ (passed-first _ 0 _ g) (later _ 2 _ (passed-first _ 1 _ (passed-rest _ 0 _ g)) f)
+
+-- a is the code's test of the state
+module _ (s : State) (ram marks : ℕ) (ts : List Test) where
+  pub lent-1 : (not (eqb ram (s .choices .size)) || not (eqb marks (s .choices .size / 16))) ≡ true → 1 ≡ firstOf (lentTests s ram marks ts)
+  lent-1 t = here _ 1 _ t
+
+  pub lent-2 : {a : Bool} → (not (eqb ram (s .choices .size)) || not (eqb marks (s .choices .size / 16))) ≡ false → a ≡ stateOk s → not a ≡ true → 2 ≡ firstOf (lentTests s ram marks ts)
+  lent-2 t p u = later _ 1 _ t (here _ 2 _ (rw (← p) u))
+
+pub lent-0 : (s : State) (ram marks : ℕ) {a : Bool} → (not (eqb ram (s .choices .size)) || not (eqb marks (s .choices .size / 16))) ≡ false → a ≡ stateOk s → not a ≡ false → 0 ≡ firstOf (lentTests s ram marks [])
+lent-0 s ram marks t p u = later _ 1 _ t (later _ 2 _ (rw (← p) u) none)
+
+-- a transfer's own tests: m is the mode and b the test of the count, as the code has them
+module _ (s : State) (n : ℕ) {m : ℕ} (e : m ≡ modeOf s) where
+  pub in-6 : not (eqb m 1 || eqb m 2) ≡ true → 6 ≡ firstOf (inTests s n)
+  in-6 t = here _ 6 _ (rw (← e) t)
+
+  pub in-7 : {b : Bool} → not (eqb m 1 || eqb m 2) ≡ false → b ≡ badCount n → b ≡ true → 7 ≡ firstOf (inTests s n)
+  in-7 t f u = later _ 6 _ (rw (← e) t) (here _ 7 _ (rw (← f) u))
+
+  pub in-0 : {b : Bool} → not (eqb m 1 || eqb m 2) ≡ false → b ≡ badCount n → b ≡ false → 0 ≡ firstOf (inTests s n)
+  in-0 t f u = later _ 6 _ (rw (← e) t) (later _ 7 _ (rw (← f) u) none)
+
+  pub out-6 : (m ≡ 3 → ⊥) → 6 ≡ firstOf (outTests s n)
+  out-6 t = here _ 6 _ (rw (← e, ne-eqb m 3 t))
+
+  pub out-7 : {b : Bool} → m ≡ 3 → b ≡ badCount n → b ≡ true → 7 ≡ firstOf (outTests s n)
+  out-7 t f u = later _ 6 _ (rw (← e, eq-eqb m 3 t)) (here _ 7 _ (rw (← f) u))
+
+  pub out-0 : {b : Bool} → m ≡ 3 → b ≡ badCount n → b ≡ false → 0 ≡ firstOf (outTests s n)
+  out-0 t f u = later _ 6 _ (rw (← e, eq-eqb m 3 t)) (later _ 7 _ (rw (← f) u) none)
+
+-- a block view's: b is the code's test of the state
+module _ (s : State) (a ram marks : ℕ) where
+  pub view-1 : (ram ≡ s .choices .size → ⊥) → 1 ≡ numberOf (view a) s ram marks
+  unfolding numberOf
+  view-1 z = here _ 1 _ (rw (ne-eqb ram _ z))
+
+  module _ (l : ram ≡ s .choices .size) {b : Bool} (e : b ≡ stateOk s) where
+    pub view-2 : not b ≡ true → 2 ≡ numberOf (view a) s ram marks
+    unfolding numberOf
+    view-2 t = later _ 1 _ (rw (eq-eqb ram _ l)) (here _ 2 _ (rw (← e) t))
+
+    pub view-8 : not b ≡ false → badBlock s a ≡ true → 8 ≡ numberOf (view a) s ram marks
+    unfolding numberOf
+    view-8 t u = later _ 1 _ (rw (eq-eqb ram _ l)) (later _ 2 _ (rw (← e) t) (here _ 8 _ u))
+
+    pub view-0 : not b ≡ false → badBlock s a ≡ false → 0 ≡ numberOf (view a) s ram marks
+    unfolding numberOf
+    view-0 t u = later _ 1 _ (rw (eq-eqb ram _ l)) (later _ 2 _ (rw (← e) t) (later _ 8 _ u none))
+
 -- ---- the calls
 
 pub write-yes : (s : State) (offset v : ℕ) {n : ℕ} {t : State} → n ≡ numberOf (write offset v) s 0 0 → n ≡ 0 → t ≡ writeOf s offset v
@@ -108,3 +175,6 @@ write-sized s offset v e z = let h = ok-sized s (accepted-ok (write offset v) s 
 pub read-listed : (s : State) (offset : ℕ) {n : ℕ} → n ≡ numberOf (read offset) s 0 0 → n ≡ 0 → listed offset ≡ true
 unfolding numberOf
 read-listed s offset e z = not-false _ (passed-first _ 2 _ (passed-rest _ 1 _ (sym e ∙ z)))
+
+pub view-sized : (s : State) {b : Bool} → b ≡ stateOk s → not b ≡ false → 16 ≤ s .choices .size
+view-sized s e t = let h = ok-sized s (sym e ∙ not-false _ t) in omega arith

@@ -24,8 +24,8 @@ use Rattle.chip.specs.Registers.{listed}
 use Rattle.chip.specs.Range.{Shaped, PlaceIn, TransferIn, InRange}
 use Rattle.chip.proofs.Tests.{in-range, sized}
 use Rattle.chip.proofs.Ranges.{placed-even, placed-most, write-in, transfer-in, fresh-state-in}
-use Rattle.spu.specs.Tick.{Pair, placeAfter, reverbAfter, reverbOf, tickOf}
-use Rattle.spu.specs.Transfer.{Moved, inwardOf, outwardOf}
+use Rattle.transfer.proofs.Moves.{inward-keeps, outward-keeps}
+use Rattle.tick.proofs.Range.{tick-in}
 use Rattle.spu.specs.Step.{Call, write, read, transferIn, transferOut, tick, tickFloats, reset, view, Answer, Test, firstOf, numberOf, refusedOf, acceptedOf, stepOf, chip}
 
 -- ---- transfers
@@ -34,49 +34,6 @@ forward-even : {size : ℕ} {a : ByteAddress} → Sized size → TransferIn size
 forward-even {size} {a} z e =
     let v = e .even in
     record { even = forward-multiple 2 size a 2 (omega arith) (omega arith); below = forward-below size a _ 2 refl (e .below) }
-
-inward-even : {size : ℕ} {a : ByteAddress} (vs : List ℕ) → Sized size → TransferIn size a → Always (TransferIn size) (inwardOf size a vs)
-unfolding inwardOf
-inward-even [] z e = ends e
-inward-even (v ∷ vs) z e = always-bind (always-any _) (λ _ _. inward-even vs z (forward-even z e))
-
-outward-even : {size : ℕ} {a : ByteAddress} (n : ℕ) → Sized size → TransferIn size a → Always (λ (m : Moved). TransferIn size (m .address)) (outwardOf size a n)
-unfolding outwardOf
-outward-even zero z e = ends e
-outward-even (suc n) z e = always-bind (always-any _) (λ v _. always-bind (outward-even n z (forward-even z e)) (λ m f. ends f))
-
--- ---- a tick
-
-moved-place : {size base place : ℕ} (right : Bool) → Sized size → base % 2 ≡ 0 → base ≤ size - 2 → PlaceIn size base place → PlaceIn size base (placeAfter size base right place)
-unfolding placeAfter
-moved-place false z e m p = p
-moved-place {size} {base} {place} true z e m p = by (eqb (place + 2) size) refl
-  where
-    by : (b : Bool) → eqb (place + 2) size ≡ b → PlaceIn size base (cond b base (place + 2))
-    by true t = record { even = e; least = omega arith; most = m }
-    by false t =
-        let v = p .even in
-        let l = p .least in
-        let h = p .most in
-        let n = eqb-false (place + 2) size t in
-        record { even = omega arith; least = omega arith; most = omega arith }
-
-reverb-in : {s : State} (sums : Sums) (left right : ℤ) → InRange s → Always (λ (r : Reverb). PlaceIn (s .choices .size) (baseOf s .0) (r .place .0)) (reverbOf s sums left right)
-unfolding reverbOf reverbAfter
-reverb-in {s} sums left right r =
-    let z = sized _ (r .size) in
-    always-bind (always-any _) (λ out _. ends (moved-place (s .reverb .right) z (placed-even _ z) (placed-most _ z)
-    (r .place)))
-
-tick-in : {s : State} (left right : ℤ) → InRange s → Always (λ (a : Reply Pair State). InRange (a .state)) (tickOf s left right)
-unfolding tickOf
-tick-in {s} left right r =
-    let e = r .capture .even in
-    always-bind (voices-in (s .regs) _ 24 _ (sized _ (r .size)) (omega arith) (record { all = r .voices; count = r .shaped .voices })) (λ b i.
-    always-bind (always-any _) (λ _ _.
-    always-bind (reverb-in (b .sums) left right r) (λ v p.
-    ends (record { shaped = record { regs = r .shaped .regs; voices = i .count }; size = r .size; voices = i .all; capture = record { even = omega arith; below = omega arith }; place = p; transfer = r .transfer; noise = ticked-in (s .noise) _ (r .noise) })
-    )))
 
 -- ---- every call
 
@@ -116,9 +73,9 @@ unfolding acceptedOf
 accepted-in (write offset v) s ram marks e r = write-in s offset v (accepted-listed offset v s ram marks e) r
 accepted-in (read offset) s ram marks e r = r
 accepted-in (transferIn vs) s ram marks e r =
-    always-bind (inward-even vs (sized _ (r .size)) (r .transfer)) (λ a q. ends (transfer-in r q))
+    always-bind (inward-keeps (TransferIn (s .choices .size)) _ (λ a. forward-even (sized _ (r .size))) (s .transfer) vs (r .transfer)) (λ a q. ends (transfer-in r q))
 accepted-in (transferOut b) s ram marks e r =
-    always-bind (outward-even (length b) (sized _ (r .size)) (r .transfer)) (λ m q. ends (transfer-in r q))
+    always-bind (outward-keeps (TransferIn (s .choices .size)) _ (λ a. forward-even (sized _ (r .size))) (s .transfer) b (r .transfer)) (λ o q. ends (transfer-in r q))
 accepted-in (tick left right) s ram marks e r = always-bind (tick-in left right r) (λ a q. ends q)
 accepted-in (tickFloats left right) s ram marks e r = always-bind (tick-in left right r) (λ a q. ends q)
 accepted-in reset s ram marks e r = fresh-state-in _ (r .size)

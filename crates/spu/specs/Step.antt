@@ -4,7 +4,7 @@ use mathlib.Core.Bool.{Bool, cond, _||_, not}
 use mathlib.Core.List.{List, [], _∷_}
 use Prim.Native.Nat.{ℕ, _-_, _/_, _%_}
 use lib.Dec.{eqb, ltb}
-use lib.ListN.{length}
+use lib.ListN.{length, take, drop}
 use lib.IntN.{ℤ, pos}
 use Rattle.fixed.specs.Bits.{field}
 use Rattle.stereo.specs.declared.Stereo.{Stereo}
@@ -67,25 +67,34 @@ abbrev outside : State → Bool
 outside s = not (stateOk s)
 
 -- 6: the transfer mode, "applied mode"
-abbrev modeOf : State → ℕ
+abbrev pub modeOf : State → ℕ
 modeOf s = field 4 2 (s .control .applied)
 
 -- 7: "0 or more than 32 halfwords"
-abbrev badCount : ℕ → Bool
+abbrev pub badCount : ℕ → Bool
 badCount n = eqb n 0 || ltb 32 n
 
 -- 8: "block address odd, not a multiple of 8, or beyond L-16"
-abbrev badBlock : State → ℕ → Bool
+abbrev pub badBlock : State → ℕ → Bool
 badBlock s a = not (eqb (a % 8) 0) || ltb (s .choices .size - 16) a
+
+-- the tests of every call that is lent RAM and marks, before its own
+abbrev pub lentTests : State → ℕ → ℕ → List Test → List Test
+lentTests s ram marks ts = test (otherLent s ram marks) 1 ∷ test (outside s) 2 ∷ ts
+
+abbrev pub inTests : State → ℕ → List Test
+inTests s n = test (not (eqb (modeOf s) 1 || eqb (modeOf s) 2)) 6 ∷ test (badCount n) 7 ∷ []
+
+abbrev pub outTests : State → ℕ → List Test
+outTests s n = test (not (eqb (modeOf s) 3)) 6 ∷ test (badCount n) 7 ∷ []
 
 abbrev pub testsOf : Call → State → ℕ → ℕ → List Test
 testsOf (write offset v) s ram marks = test (outside s) 2 ∷ test (not (listed offset)) 3 ∷ test (readOnly offset) 4 ∷ test (notWritten offset v) 5 ∷ []
 testsOf (read offset) s ram marks = test (outside s) 2 ∷ test (not (listed offset)) 3 ∷ test (notRead offset) 5 ∷ []
-testsOf (transferIn vs) s ram marks =
-    test (otherLent s ram marks) 1 ∷ test (outside s) 2 ∷ test (not (eqb (modeOf s) 1 || eqb (modeOf s) 2)) 6 ∷ test (badCount (length vs)) 7 ∷ []
-testsOf (transferOut b) s ram marks = test (otherLent s ram marks) 1 ∷ test (outside s) 2 ∷ test (not (eqb (modeOf s) 3)) 6 ∷ test (badCount (length b)) 7 ∷ []
-testsOf (tick left right) s ram marks = test (otherLent s ram marks) 1 ∷ test (outside s) 2 ∷ []
-testsOf (tickFloats left right) s ram marks = test (otherLent s ram marks) 1 ∷ test (outside s) 2 ∷ []
+testsOf (transferIn vs) s ram marks = lentTests s ram marks (inTests s (length vs))
+testsOf (transferOut b) s ram marks = lentTests s ram marks (outTests s (length b))
+testsOf (tick left right) s ram marks = lentTests s ram marks []
+testsOf (tickFloats left right) s ram marks = lentTests s ram marks []
 testsOf reset s ram marks = test (outside s) 2 ∷ []
 testsOf (view a) s ram marks = test (otherRam s ram) 1 ∷ test (outside s) 2 ∷ test (badBlock s a) 8 ∷ []
 
@@ -135,15 +144,20 @@ unfoldable pub outcomeOf : Call → State → List ℕ → List ℕ → Outcome 
 outcomeOf c s ram marks = outcome chip (stepOf c s (length ram) (length marks)) s ram marks
 
 -- a call that is lent RAM and marks gives this answer and these reports, and leaves this state, RAM and marks
-pub record Leaves (c : Call) (s : State) (ram marks : List ℕ) (a : Answer) (irq doubt : Bool) (t : State) (ram′ marks′ : List ℕ) : Type 0 where
-  pub answer : a ≡ outcomeOf c s ram marks .answer
-  pub irq : irq ≡ outcomeOf c s ram marks .irq
-  pub doubt : doubt ≡ outcomeOf c s ram marks .doubt
-  pub state : t ≡ outcomeOf c s ram marks .state
-  pub ram : ram′ ≡ outcomeOf c s ram marks .ram
-  pub marks : marks′ ≡ outcomeOf c s ram marks .marks
+pub record Leaves (c : Call) (s : State) (r m : List ℕ) (a : Answer) (i d : Bool) (t : State) (r′ m′ : List ℕ) : Type 0 where
+  pub answer : a ≡ outcomeOf c s r m .answer
+  pub irq : i ≡ outcomeOf c s r m .irq
+  pub doubt : d ≡ outcomeOf c s r m .doubt
+  pub state : t ≡ outcomeOf c s r m .state
+  pub ram : r′ ≡ outcomeOf c s r m .ram
+  pub marks : m′ ≡ outcomeOf c s r m .marks
 
 -- ---- "Making a state for another L gives 1 and the fresh state for 65,536."
 
 unfoldable pub makeOf : ℕ → Changed
 makeOf size = cond (sizeOk size) (record { number = 0; state = freshOf size }) (record { number = 1; state = freshOf 0x10000 })
+
+-- ---- "The block view gives back the caller's own sixteen bytes of sound RAM", "an empty view" on refusal
+
+unfoldable pub viewOf : State → List ℕ → ℕ → List ℕ
+viewOf s ram a = cond (eqb (numberOf (view a) s (length ram) 0) 0) (take 16 (drop a ram)) []

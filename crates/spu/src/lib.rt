@@ -1,14 +1,16 @@
 // The calls on a state.
 ghost use mathlib.Core.Path.{_≡_};
-ghost use mathlib.Core.Bool.{cond};
-ghost use Prim.Native.Nat.{_+_};
+ghost use mathlib.Core.Bool.{false, cond, _&&_, not};
+ghost use mathlib.Core.List.{[]};
+ghost use Prim.Native.Nat.{_-_};
 ghost use lib.Dec.{eqb};
 ghost use lib.ListN.{length, take, drop};
-ghost use Rattle.chip.specs.State.{watchOf, watchedOf};
-ghost use Rattle.spu.specs.Step.{written, value as valued, moved, movedOut, pair, floats, made, write as writing, read as reading, transferIn, transferOut, tick as ticking, tickFloats, reset as resetting, view, numberOf, Gives, Leaves, makeOf};
+ghost use Rattle.chip.specs.State.{withTransfer, watchedOf};
+ghost use Rattle.spu.specs.Step.{written, value as valued, moved, movedOut, pair, floats, made, write as writing, read as reading, transferIn, transferOut, tick as ticking, tickFloats, reset as resetting, view, viewed, firstOf, modeOf, badCount, lentTests, inTests, outTests, numberOf, viewOf, Gives, Leaves, makeOf};
 use chip::State;
 use soundram::Watch;
 use stereo::Stereo;
+use transfer::Moved;
 
 // The number that a call gives, 0 where it is not refused, and the state after it.
 pub struct Changed {
@@ -131,7 +133,9 @@ pub struct Transferred {
 }
 
 // 1 or 2, or 0 where neither applies, of the lengths of what is lent.
-fn lent_number(s: State, ram: usize, marks: usize) -> u8 {
+fn lent_number(s: State, ram: usize, marks: usize) -> u8
+    ensures { λ r. ⌜ r ≡ firstOf (lentTests s ram marks []) ⌝ }
+{
     let size = s.choices.size as usize;
     if (ram != size) | (marks != size / 16) {
         return 1;
@@ -161,10 +165,11 @@ pub fn tick(s: State, ram: &mut [u8], marks: &mut [u8], left: i16, right: i16) -
     let w = chip::watch(s);
     let t = tick::run(s, ram, marks, left, right, w);
     let state = chip::watched(t.state, t.watch);
+    let pair = t.pair;
     Ticked {
         number,
-        left: t.pair.left,
-        right: t.pair.right,
+        left: pair.left,
+        right: pair.right,
         irq: t.watch.latch & !w.latch,
         doubt: t.watch.doubt & !w.doubt,
         state,
@@ -193,15 +198,21 @@ pub fn tick_floats(
     }
 }
 
-fn bad_count(n: usize) -> bool {
+fn bad_count(n: usize) -> bool
+    ensures { λ r. ⌜ r ≡ badCount n ⌝ }
+{
     (n == 0) | (32 < n)
 }
 
-fn mode(s: State) -> u16 {
+fn mode(s: State) -> u16
+    ensures { λ r. ⌜ r ≡ modeOf s ⌝ }
+{
     s.control.applied / 16 % 4
 }
 
-fn in_number(s: State, ram: usize, marks: usize, count: usize) -> u8 {
+fn in_number(s: State, ram: usize, marks: usize, count: usize) -> u8
+    ensures { λ r. ⌜ r ≡ firstOf (lentTests s ram marks (inTests s count)) ⌝ }
+{
     let number = lent_number(s, ram, marks);
     if number != 0 {
         return number;
@@ -216,7 +227,9 @@ fn in_number(s: State, ram: usize, marks: usize, count: usize) -> u8 {
     0
 }
 
-fn out_number(s: State, ram: usize, marks: usize, count: usize) -> u8 {
+fn out_number(s: State, ram: usize, marks: usize, count: usize) -> u8
+    ensures { λ r. ⌜ r ≡ firstOf (lentTests s ram marks (outTests s count)) ⌝ }
+{
     let number = lent_number(s, ram, marks);
     if number != 0 {
         return number;
@@ -230,7 +243,9 @@ fn out_number(s: State, ram: usize, marks: usize, count: usize) -> u8 {
     0
 }
 
-fn refused(number: u8, s: State) -> Transferred {
+fn refused(number: u8, s: State) -> Transferred
+    ensures { λ r. ⌜ r ≡ record { number = number; count = 0; irq = false; doubt = false; state = s } ⌝ }
+{
     let state = s;
     Transferred {
         number,
@@ -241,7 +256,9 @@ fn refused(number: u8, s: State) -> Transferred {
     }
 }
 
-fn transferred(s: State, count: u32, w: Watch, m: transfer::Moved) -> Transferred {
+fn accepted(s: State, count: u32, w: Watch, m: Moved) -> Transferred
+    ensures { λ r. ⌜ r ≡ record { number = 0; count = count; irq = m .watch .latch && not (w .latch); doubt = m .watch .doubt && not (w .doubt); state = watchedOf (withTransfer s (m .address)) (m .watch) } ⌝ }
+{
     let address = m.address;
     let mut t = s;
     t.transfer = address;
@@ -263,9 +280,10 @@ pub fn transfer_in(s: State, ram: &mut [u8], marks: &mut [u8], values: &[u16]) -
     if number != 0 {
         return refused(number, s);
     }
+    let count = values.len() as u32;
     let w = chip::watch(s);
     let m = transfer::inward(ram, marks, s.choices.size, s.transfer, values, w);
-    transferred(s, values.len() as u32, w, m)
+    accepted(s, count, w, m)
 }
 
 // Halfwords out of sound RAM, as many as the buffer holds.
@@ -276,13 +294,16 @@ pub fn transfer_out(s: State, ram: &[u8], marks: &[u8], out: &mut [u16]) -> Tran
     if number != 0 {
         return refused(number, s);
     }
+    let count = out.len() as u32;
     let w = chip::watch(s);
     let m = transfer::outward(ram, marks, s.choices.size, s.transfer, out, w);
-    transferred(s, out.len() as u32, w, m)
+    accepted(s, count, w, m)
 }
 
 // The number that the block view gives at an address.
-pub fn view_number(s: State, ram: &[u8], address: u32) -> u8 {
+pub fn view_number(s: State, ram: &[u8], address: u32) -> u8
+    ensures { λ r. ⌜ r ≡ numberOf (view address) s (length (now (ram .entry))) 0 ⌝ }
+{
     let size = s.choices.size;
     if ram.len() != size as usize {
         return 1;
@@ -297,7 +318,9 @@ pub fn view_number(s: State, ram: &[u8], address: u32) -> u8 {
 }
 
 // The sixteen bytes of the block there, in the caller's own RAM; none where the view is refused.
-pub fn block_view(s: State, ram: &[u8], address: u32) -> &[u8] {
+pub fn block_view(s: State, ram: &[u8], address: u32) -> &[u8]
+    ensures { λ r. ⌜ now r ≡ viewOf s (now (ram .entry)) address ⌝ }
+{
     let number = view_number(s, ram, address);
     if number != 0 {
         return &ram[0..0];

@@ -9,9 +9,9 @@ ghost use Rattle.fixed.specs.Bits.{bit};
 ghost use Rattle.registers.specs.Map.{registerAt};
 ghost use Rattle.soundram.specs.Address.{Lent};
 ghost use Rattle.soundram.specs.Program.{Does, memOf};
-ghost use Rattle.voices.specs.Voices.{SumsIn};
-ghost use Rattle.chip.specs.Range.{InRange, PlaceIn};
-ghost use Rattle.chip.specs.State.{baseAt};
+ghost use Rattle.voices.specs.Voices.{SumsIn, AllIn};
+ghost use Rattle.chip.specs.Range.{CaptureIn, PlaceIn};
+ghost use Rattle.chip.specs.State.{baseAt, baseOf};
 ghost use Rattle.tick.specs.Tick.{cdOf, mixOf, pairOf, captureOf, captureBoth, captureAt, turningOf, inputOf, enteringOf, placeAfter, heldOf, reverbAfter, reverbOf, tickOf};
 use chip::Control;
 use chip::Held;
@@ -259,7 +259,7 @@ fn turn(
 // ---- the whole tick, of the raw CD pair
 
 pub fn run(s: State, ram: &mut [u8], marks: &mut [u8], left: i16, right: i16, w: Watch) -> Ticked
-    requires { ⌜ Lent (s .choices .size) (now ram) (now marks) × InRange s ⌝ }
+    requires { ⌜ Lent (s .choices .size) (now ram) (now marks) × AllIn (s .choices .size) (s .voices) × CaptureIn (s .capture) × PlaceIn (s .choices .size) (baseOf s .0) (s .reverb .place .0) ⌝ }
     ensures { λ r. ⌜ Does (tickOf s left right) (memOf (now (ram .entry)) (now (marks .entry)) w) (record { answer = r .pair; state = r .state }) (memOf (now (ram .exit)) (now (marks .exit)) (r .watch)) ⌝ }
 {
     let size = s.choices.size;

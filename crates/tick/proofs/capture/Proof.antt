@@ -13,7 +13,7 @@ capture-both-requires : tie.Need-capture-both-requires
 capture-both-requires c κs = search needs
 
 capture-both-requires-2 : tie.Need-capture-both-requires-2
-capture-both-requires-2 c κs = 
+capture-both-requires-2 c κs =
     let a = c .before .before .before .before .before .before .before .before in
     let b = a .before .before .before .before .before in
     (lent-after (a .capture-both .ensures) (b .pre .0), omega arith, b .pre .1)
@@ -25,7 +25,7 @@ same-length-2 : tie.Need-same-length-2
 same-length-2 c = search needs
 
 returns : tie.Need-returns
-returns c = 
+returns c =
     let a = c .before .before .before .before in
     let b = a .before in
     let d = b .before in

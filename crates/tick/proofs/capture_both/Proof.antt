@@ -13,7 +13,7 @@ add-capture-at : tie.Need-add-capture-at
 add-capture-at c = search needs
 
 capture-at-requires-2 : tie.Need-capture-at-requires-2
-capture-at-requires-2 c κs = 
+capture-at-requires-2 c κs =
     let a = c .before .before .before .before .before .before in
     let b = a .before .before .before .before .before in
     (lent-after (a .capture-at .ensures) (b .pre .0), omega (arith, b .pre .1), b .pre .2)
@@ -25,7 +25,7 @@ same-length-2 : tie.Need-same-length-2
 same-length-2 c = search needs
 
 returns : tie.Need-returns
-returns c = 
+returns c =
     let a = c .before .before .before .before in
     let b = a .before .before .before .before .before .before .before in
     let d = b .before .before .before .before .before in

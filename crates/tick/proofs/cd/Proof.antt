@@ -36,7 +36,7 @@ product-requires : tie.Need-product-requires
 product-requires c κs = wide (range (hold w32 (x (c .before .before .before .before)) tt)) tt
 
 returns : tie.Need-returns
-returns c = 
+returns c =
     let a = c .before in
     let b = a .before in
     let d = b .before in

@@ -15,7 +15,7 @@ input-requires : tie.Need-input-requires
 input-requires c κs = search needs
 
 returns : tie.Need-returns
-returns c = 
+returns c =
     let a = c .before in
     let b = a .before in
     let d = b .before in
@@ -30,7 +30,7 @@ input-requires-2 : tie.Need-input-requires-2
 input-requires-2 c κs = search needs
 
 returns-2 : tie.Need-returns-2
-returns-2 c = 
+returns-2 c =
     let a = c .before in
     let b = a .before in
     let d = b .before in

@@ -21,7 +21,7 @@ saturate-requires : tie.Need-saturate-requires
 saturate-requires c κs = search needs
 
 returns : tie.Need-returns
-returns c = 
+returns c =
     let a = c .before in
     let b = a .before in
     let d = b .before in
@@ -31,7 +31,7 @@ saturate-requires-2 : tie.Need-saturate-requires-2
 saturate-requires-2 c κs = search needs
 
 returns-2 : tie.Need-returns-2
-returns-2 c = 
+returns-2 c =
     let a = c .before in
     let b = a .before in
     let d = b .before in

@@ -31,7 +31,7 @@ heard-requires : tie.Need-heard-requires
 heard-requires c κs = search needs
 
 add-saturate : tie.Need-add-saturate
-add-saturate c = 
+add-saturate c =
     let a = c .before .before in
     need (sum c) tt
 
@@ -45,12 +45,12 @@ volume-requires : tie.Need-volume-requires
 volume-requires c κs = search needs
 
 cast-product : tie.Need-cast-product
-cast-product c = 
+cast-product c =
     let a = c .before .before in
     need (mixed (a)) tt
 
 product-requires : tie.Need-product-requires
-product-requires c κs = 
+product-requires c κs =
     let a = c .before .before in
     wide (range (hold w32 (mixed (a)) tt)) tt
 
@@ -58,7 +58,7 @@ saturate-requires-2 : tie.Need-saturate-requires-2
 saturate-requires-2 c κs = search needs
 
 returns : tie.Need-returns
-returns c = 
+returns c =
     let a = c .before in
     let b = a .before in
     let d = b .before in

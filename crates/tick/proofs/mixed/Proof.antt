@@ -21,7 +21,7 @@ mix-requires-2 : tie.Need-mix-requires-2
 mix-requires-2 c κs = search needs
 
 returns : tie.Need-returns
-returns c = 
+returns c =
     let a = c .before in
     let b = a .before in
     let d = b .before in

@@ -17,25 +17,25 @@ tick-requires-2 : tie.Need-tick-requires-2
 tick-requires-2 c κs = search needs
 
 capture-requires : tie.Need-capture-requires
-capture-requires c κs = 
+capture-requires c κs =
     let a = c .before .before .before in
     let b = a .before .before .before .before .before .before .before .before .before .before .before .before .before in
-    (b .pre .0, b .pre .1 .capture .below)
+    (b .pre .0, b .pre .2 .below)
 
 turn-requires : tie.Need-turn-requires
-turn-requires c κs = 
+turn-requires c κs =
     let a = c .before .before .before .before .before .before .before .before .before in
     let b = a .before .before .before .before in
     let d = b .before .before .before .before .before .before .before .before .before .before .before .before .before in
-    (lent-after (a .capture .ensures) (d .pre .0), d .pre .1 .place, b .tick2 .ensures .1)
+    (lent-after (a .capture .ensures) (d .pre .0), d .pre .3, b .tick2 .ensures .1)
 
 mixed-requires : tie.Need-mixed-requires
 mixed-requires c κs = search needs
 
 add-state : tie.Need-add-state
-add-state c = 
+add-state c =
     let a = c .before .before .before .before .before .before .before .before .before .before .before .before .before .before .before .before .before .before .before .before .before .before .before .before .before .before .before .before .before .before .before .before .before .before .before .before .before .before in
-    let k = a .pre .1 .capture .below in omega arith
+    let k = a .pre .2 .below in omega arith
 
 wrapping-add-u32-requires : tie.Need-wrapping-add-u32-requires
 wrapping-add-u32-requires c κs = search needs
@@ -47,7 +47,7 @@ same-length-2 : tie.Need-same-length-2
 same-length-2 c = search needs
 
 returns : tie.Need-returns
-returns c = 
+returns c =
     let a = c .before .before .before .before in
     let b = a .before .before .before .before .before .before .before .before in
     let d = b .before .before .before .before .before .before .before .before .before .before in

@@ -23,14 +23,14 @@ turning-requires : tie.Need-turning-requires
 turning-requires c κs = search needs
 
 turn-requires : tie.Need-turn-requires
-turn-requires c κs = 
+turn-requires c κs =
     let a = c .before .before .before .before in
     let b = a .before in
     let d = b .before .before .before in
     let p = d .pre in (p .0, area-in (p .0 .sized) (p .1) (rw (a .address-of .ensures, b .at .ensures)))
 
 after-requires : tie.Need-after-requires
-after-requires c κs = 
+after-requires c κs =
     let a = c .before .before .before .before .before .before .before .before .before .before .before .before .before .before in
     let p = a .pre in let z = p .0 .sized in omega (arith, p .1 .most, z .most, z .least)
 
@@ -41,7 +41,7 @@ same-length-2 : tie.Need-same-length-2
 same-length-2 c = search needs
 
 returns : tie.Need-returns
-returns c = 
+returns c =
     let a = c .before in
     let b = a .before in
     let d = b .before .before .before .before .before in

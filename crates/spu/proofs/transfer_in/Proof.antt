@@ -1,0 +1,70 @@
+use Rattle.chip.proofs.Tests.{ok-transfer}
+use Rattle.spu.proofs.Lent.{lent-ok, lent-some, lent-all, in-fits, in-no, in-yes}
+use borrow.Author.Needs.{needs}
+use Rattle.spu.proofs.transfer_in.Statement.{statement}
+use Rattle.spu.proofs.transfer_in.Tie as tie
+
+in-number-requires : tie.Need-in-number-requires
+in-number-requires c κs = search needs
+
+refused-requires : tie.Need-refused-requires
+refused-requires c κs = search needs
+
+returns : tie.Need-returns
+returns c =
+    let a = c .before in
+    let b = a .before in
+    in-no _ _ _ _ (b .in-number .ensures) (a .if1 .taken) (c .refused .ensures)
+
+cast-count : tie.Need-cast-count
+cast-count c =
+    let a = c .before in
+    let b = a .before .before .before .before in
+    in-fits (b .args .s) _ _ _ (a .in-number .ensures) (c .if1 .left)
+
+watch-requires : tie.Need-watch-requires
+watch-requires c κs =
+    let a = c .before in
+    let b = a .before .before .before .before in
+    lent-some (b .args .s) _ _ _ (a .in-number .ensures) (c .if1 .left)
+
+inward-requires : tie.Need-inward-requires
+inward-requires c κs =
+    let a = c .before .before .before in
+    let b = a .before in
+    let d = b .before .before .before .before in
+    let e = b .in-number .ensures in
+    let z = a .if1 .left in
+    (lent-all (d .args .s) _ _ _ e z, ok-transfer _ (lent-ok (d .args .s) _ _ _ e z) .below)
+
+accepted-requires : tie.Need-accepted-requires
+accepted-requires c κs = search needs
+
+same-length : tie.Need-same-length
+same-length c = search needs
+
+same-length-2 : tie.Need-same-length-2
+same-length-2 c = search needs
+
+returns-2 : tie.Need-returns-2
+returns-2 c =
+    let a = c .before .before .before .before .before in
+    let b = a .before .before .before in
+    let d = b .before in
+    let e = d .before in
+    in-yes _ _ _ _ (e .in-number .ensures) (d .if1 .left) (b .watch .ensures) (a .inward .ensures) (c .accepted .ensures)
+
+pub transfer-in-spec : {M : Type 1} → statement M
+transfer-in-spec =
+    tie.close
+    (tie.spec
+    in-number-requires
+    refused-requires
+    returns
+    cast-count
+    watch-requires
+    inward-requires
+    accepted-requires
+    same-length
+    same-length-2
+    returns-2)
