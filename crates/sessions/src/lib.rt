@@ -1,7 +1,7 @@
 // The programs bench and replay: lines from standard input, answers to standard output.
 ghost use mathlib.Core.Path.{_≡_};
-ghost use Prim.Native.Nat.{_≤_};
-ghost use lib.ListN.{set};
+ghost use Prim.Native.Nat.{_+_, _≤_};
+ghost use lib.ListN.{length, set};
 ghost use Rattle.sessions.specs.Fill.{filledOf};
 use chip::State;
 use commands::Command;
@@ -44,7 +44,9 @@ fn unread(s: Session) -> Reading {
 // ---- output
 
 // Writes what waits, unless a write failed before.
-fn flush(out: &[u8], s: Session) -> Session {
+fn flush(out: &[u8], s: Session) -> Session
+    ensures { λ r. ⌜ r .place ≡ 0 ⌝ }
+{
     let place = s.place;
     let mut t = s;
     t.place = 0;
@@ -58,7 +60,9 @@ fn flush(out: &[u8], s: Session) -> Session {
 }
 
 // No answer's line is longer than 512 bytes: where it might not fit, what waits is written first.
-fn roomy(out: &[u8], s: Session) -> Session {
+fn roomy(out: &[u8], s: Session) -> Session
+    ensures { λ r. ⌜ (512 ≤ length (now (out .entry)) → r .place + 512 ≤ length (now (out .entry))) ⌝ }
+{
     let place = s.place;
     if place <= out.len() {
         if 512 <= out.len() - place {
