@@ -1,0 +1,4 @@
+// The program bench of document 01.
+fn main() {
+    sessions::bench();
+}

@@ -1,0 +1,11 @@
+use Rattle.lines.specs.Fields.{blank}
+use mathlib.Core.Path.{refl}
+use Rattle.lines.proofs.blank.Statement.{statement}
+use Rattle.lines.proofs.blank.Tie as tie
+
+returns : tie.Need-returns
+unfolding blank
+returns c = refl
+
+pub blank-spec : {M : Type 1} → statement M
+blank-spec = tie.close (tie.spec returns)

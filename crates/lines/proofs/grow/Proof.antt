@@ -1,0 +1,14 @@
+use Rattle.lines.specs.Line.{grownOf}
+use borrow.Author.Needs.{needs}
+use Rattle.lines.proofs.grow.Statement.{statement}
+use Rattle.lines.proofs.grow.Tie as tie
+
+more-requires : tie.Need-more-requires
+more-requires c κs = search needs
+
+returns : tie.Need-returns
+unfolding grownOf
+returns c = cc
+
+pub grow-spec : {M : Type 1} → statement M
+grow-spec = tie.close (tie.spec more-requires returns)

@@ -1,0 +1,54 @@
+use Rattle.sessions.proofs.Laws.{part-of}
+use Rattle.sessions.proofs.Laws.{part-length}
+use borrow.Author.Needs.{needs}
+use Rattle.sessions.proofs.inward.Statement.{statement}
+use Rattle.sessions.proofs.inward.Tie as tie
+
+values-requires : tie.Need-values-requires
+values-requires c κs = search needs
+
+least-requires : tie.Need-least-requires
+least-requires c κs = search needs
+
+array-share-prefix-values : tie.Need-array-share-prefix-values
+array-share-prefix-values c = search needs
+
+slice-aggregate-transfer-in : tie.Need-slice-aggregate-transfer-in
+slice-aggregate-transfer-in c = search (part-of, needs)
+
+transfer-in-requires : tie.Need-transfer-in-requires
+transfer-in-requires c κs = search needs
+
+inward-answer-requires : tie.Need-inward-answer-requires
+inward-answer-requires c κs = search needs
+
+changed-requires : tie.Need-changed-requires
+changed-requires c κs = search needs
+
+same-length : tie.Need-same-length
+same-length c = search needs
+
+same-length-2 : tie.Need-same-length-2
+same-length-2 c = search needs
+
+same-length-3 : tie.Need-same-length-3
+same-length-3 c = search needs
+
+returns : tie.Need-returns
+returns c = search needs
+
+pub inward-spec : {M : Type 1} → statement M
+inward-spec =
+    tie.close
+    (tie.spec
+    values-requires
+    least-requires
+    array-share-prefix-values
+    slice-aggregate-transfer-in
+    transfer-in-requires
+    inward-answer-requires
+    changed-requires
+    same-length
+    same-length-2
+    same-length-3
+    returns)

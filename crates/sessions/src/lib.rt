@@ -1,0 +1,528 @@
+// The programs bench and replay: lines from standard input, answers to standard output.
+ghost use mathlib.Core.Path.{_≡_};
+ghost use Prim.Native.Nat.{_+_, _≤_};
+ghost use lib.ListN.{length, set};
+ghost use Rattle.sessions.specs.Fill.{filledOf};
+use chip::State;
+use commands::Command;
+use libc::STDERR_FILENO;
+use libc::STDIN_FILENO;
+use libc::STDOUT_FILENO;
+use lines::Line;
+
+// The state, the place in the output up to which answers wait, and whether the output still takes bytes.
+pub struct Session {
+    pub bench: bool,
+    pub state: State,
+    pub place: usize,
+    pub open: bool,
+}
+
+// A line that is not ended yet, and the session before it.
+pub struct Reading {
+    pub session: Session,
+    pub line: Line,
+    pub more: bool,
+}
+
+// The same, and how far a piece of the input is read.
+pub struct Taken {
+    pub reading: Reading,
+    pub at: usize,
+}
+
+// Before a line, unless the output takes no more.
+fn unread(s: Session) -> Reading {
+    let line = Line::fresh();
+    Reading {
+        session: s,
+        line,
+        more: s.open,
+    }
+}
+
+// ---- output
+
+// Writes what waits, unless a write failed before.
+fn flush(out: &[u8], s: Session) -> Session
+    ensures { λ r. ⌜ r .place ≡ 0 ⌝ }
+{
+    let place = s.place;
+    let mut t = s;
+    t.place = 0;
+    if place <= out.len() {
+        if s.open {
+            t.open = io::write_all(STDOUT_FILENO, &out[..place]);
+            return t;
+        }
+    }
+    t
+}
+
+// No answer's line is longer than 512 bytes: where it might not fit, what waits is written first.
+fn roomy(out: &[u8], s: Session) -> Session
+    ensures { λ r. ⌜ (512 ≤ length (now (out .entry)) → r .place + 512 ≤ length (now (out .entry))) ⌝ }
+{
+    let place = s.place;
+    if place <= out.len() {
+        if 512 <= out.len() - place {
+            return s;
+        }
+    }
+    flush(out, s)
+}
+
+fn placed(s: Session, place: usize) -> Session {
+    let mut t = s;
+    t.place = place;
+    t
+}
+
+fn say(out: &mut [u8], s: Session, text: &[u8]) -> Session {
+    placed(s, text::put_text(out, s.place, text))
+}
+
+fn changed(s: Session, state: State, place: usize) -> Session {
+    let mut t = s;
+    t.state = state;
+    t.place = place;
+    t
+}
+
+// Of an accepted call bench prints nothing.
+fn bench_number(out: &mut [u8], place: usize, number: u8) -> usize {
+    if number == 0 {
+        return place;
+    }
+    answers::refused(out, place, number)
+}
+
+// ---- one command
+
+fn write_answer(out: &mut [u8], s: Session, number: u8) -> usize {
+    if s.bench {
+        return bench_number(out, s.place, number);
+    }
+    answers::wrote(out, s.place, number)
+}
+
+fn write(out: &mut [u8], s: Session, offset: u16, value: u16) -> Session {
+    let w = spu::write(s.state, offset as u32, value);
+    let state = w.state;
+    let place = write_answer(out, s, w.number);
+    changed(s, state, place)
+}
+
+fn read(out: &mut [u8], s: Session, offset: u16) -> Session {
+    let r = spu::read(s.state, offset as u32);
+    placed(s, answers::was_read(out, s.place, r.number, r.value))
+}
+
+fn reset(out: &mut [u8], s: Session) -> Session {
+    let r = spu::reset(s.state);
+    let state = r.state;
+    let place = answers::was_reset(out, s.place, r.number);
+    changed(s, state, place)
+}
+
+fn least(a: usize, b: usize) -> usize
+    ensures { λ r. ⌜ (r ≤ a) × (r ≤ b) ⌝ }
+{
+    if a < b { a } else { b }
+}
+
+fn inward_answer(
+    out: &mut [u8],
+    s: Session,
+    number: u8,
+    count: u32,
+    irq: bool,
+    doubt: bool,
+) -> usize {
+    if s.bench {
+        return bench_number(out, s.place, number);
+    }
+    answers::moved_in(out, s.place, number, count, irq, doubt)
+}
+
+fn inward(
+    ram: &mut [u8],
+    marks: &mut [u8],
+    out: &mut [u8],
+    s: Session,
+    l: Line,
+    count: usize,
+) -> Session {
+    let values = commands::values(l);
+    let n = least(count, 33);
+    let r = spu::transfer_in(s.state, ram, marks, &values[..n]);
+    let state = r.state;
+    let place = inward_answer(out, s, r.number, r.count, r.irq, r.doubt);
+    changed(s, state, place)
+}
+
+fn outward_into(
+    ram: &[u8],
+    marks: &[u8],
+    out: &mut [u8],
+    s: Session,
+    buffer: &mut [u16],
+) -> Session {
+    let r = spu::transfer_out(s.state, ram, marks, buffer);
+    let state = r.state;
+    let place = answers::moved_out(out, s.place, r.number, r.count, r.irq, r.doubt, buffer);
+    changed(s, state, place)
+}
+
+// The buffer is lent holding A5A5h everywhere, and shown whole.
+fn outward(ram: &[u8], marks: &[u8], out: &mut [u8], s: Session, count: u32) -> Session {
+    let mut buffer = [0xA5A5u16; 64];
+    let n = least(count as usize, 64);
+    outward_into(ram, marks, out, s, &mut buffer[..n])
+}
+
+fn tick_answer(
+    out: &mut [u8],
+    s: Session,
+    number: u8,
+    left: i16,
+    right: i16,
+    irq: bool,
+    doubt: bool,
+    after: bool,
+) -> usize {
+    let tick = s.state.tick;
+    if s.bench {
+        return answers::bench_ticked(out, s.place, tick, left, right, after);
+    }
+    answers::ticked(out, s.place, number, tick, left, right, irq, doubt, after)
+}
+
+fn tick(
+    ram: &mut [u8],
+    marks: &mut [u8],
+    out: &mut [u8],
+    s: Session,
+    left: i16,
+    right: i16,
+) -> Session {
+    let r = spu::tick(s.state, ram, marks, left, right);
+    let state = r.state;
+    let place = tick_answer(
+        out,
+        s,
+        r.number,
+        r.left,
+        r.right,
+        r.irq,
+        r.doubt,
+        state.control.doubt,
+    );
+    changed(s, state, place)
+}
+
+fn tick_floats(
+    ram: &mut [u8],
+    marks: &mut [u8],
+    out: &mut [u8],
+    s: Session,
+    left: i16,
+    right: i16,
+) -> Session {
+    let r = spu::tick_floats(s.state, ram, marks, left, right);
+    let state = r.state;
+    let pair = r.pair;
+    let place = answers::ticked_floats(
+        out,
+        s.place,
+        r.number,
+        s.state.tick,
+        pair.left,
+        pair.right,
+        r.irq,
+        r.doubt,
+        state.control.doubt,
+    );
+    changed(s, state, place)
+}
+
+fn one_tick(
+    ram: &mut [u8],
+    marks: &mut [u8],
+    out: &mut [u8],
+    s: Session,
+    floats: bool,
+    left: i16,
+    right: i16,
+) -> Session {
+    let t = roomy(out, s);
+    if floats {
+        return tick_floats(ram, marks, out, t, left, right);
+    }
+    tick(ram, marks, out, t, left, right)
+}
+
+fn ticks(
+    ram: &mut [u8],
+    marks: &mut [u8],
+    out: &mut [u8],
+    s: Session,
+    floats: bool,
+    count: u32,
+    left: i16,
+    right: i16,
+) -> Session {
+    let mut t = s;
+    let mut k = 0u32;
+    while k < count {
+        t = one_tick(ram, marks, out, t, floats, left, right);
+        k += 1;
+    }
+    t
+}
+
+fn view(ram: &[u8], out: &mut [u8], s: Session, address: u32) -> Session {
+    let number = spu::view_number(s.state, ram, address);
+    let bytes = spu::block_view(s.state, ram, address);
+    placed(s, answers::viewed(out, s.place, number, bytes))
+}
+
+fn store(ram: &mut [u8], i: usize, byte: u8)
+    ensures { λ _. ⌜ now (ram .exit) ≡ set (now (ram .entry)) i byte ⌝ }
+{
+    if i < ram.len() {
+        ram[i] = byte;
+    }
+}
+
+// Raw bytes, not through the core; marks stay.
+fn fill(ram: &mut [u8], from: u32, n: u32, byte: u8)
+    ensures { λ _. ⌜ now (ram .exit) ≡ filledOf (now (ram .entry)) from byte n ⌝ }
+{
+    let mut k = 0u32;
+    while k < n {
+        store(ram, from as usize + k as usize, byte);
+        k += 1;
+    }
+}
+
+fn obey(
+    ram: &mut [u8],
+    marks: &mut [u8],
+    out: &mut [u8],
+    s: Session,
+    l: Line,
+    c: Command,
+) -> Session {
+    match c {
+        Command::Bad => say(out, s, b"bad line\n"),
+        Command::Quiet => s,
+        Command::Write { offset, value } => write(out, s, offset, value),
+        Command::Read { offset } => read(out, s, offset),
+        Command::Inward { count } => inward(ram, marks, out, s, l, count),
+        Command::Outward { count } => outward(ram, marks, out, s, count),
+        Command::Tick {
+            floats,
+            count,
+            left,
+            right,
+        } => { ticks(ram, marks, out, s, floats, count, left, right) }
+        Command::View { address } => view(ram, out, s, address),
+        Command::Reset => reset(out, s),
+        Command::Ram { address, count } => {
+            placed(s, answers::ram(out, s.place, address, count, ram))
+        }
+        Command::Marks { address, count } => {
+            placed(s, answers::marks(out, s.place, address, count, marks))
+        }
+        Command::Fill {
+            address,
+            count,
+            byte,
+        } => {
+            fill(ram, address, count, byte);
+            say(out, s, b"ok\n")
+        }
+    }
+}
+
+// ---- lines
+
+fn command_of(s: Session, l: Line) -> Command {
+    if s.bench {
+        return commands::bench(l);
+    }
+    commands::replay(s.state.choices.size as u64, l)
+}
+
+// The answer to a line that has ended.
+fn answer(ram: &mut [u8], marks: &mut [u8], out: &mut [u8], s: Session, line: Line) -> Session {
+    let l = lines::finish(line);
+    let t = roomy(out, s);
+    obey(ram, marks, out, t, l, command_of(t, l))
+}
+
+// What a piece of the input holds of a line, from an index on.
+fn step(ram: &mut [u8], marks: &mut [u8], out: &mut [u8], t: Taken, input: &[u8]) -> Taken {
+    let r = t.reading;
+    let session = r.session;
+    let found = lines::scan(r.line, input, t.at);
+    let line = found.line;
+    if found.ended {
+        let next = answer(ram, marks, out, session, line);
+        let reading = unread(next);
+        return Taken {
+            reading,
+            at: found.at,
+        };
+    }
+    let reading = Reading {
+        session,
+        line,
+        more: true,
+    };
+    Taken {
+        reading,
+        at: found.at,
+    }
+}
+
+fn take(ram: &mut [u8], marks: &mut [u8], out: &mut [u8], r: Reading, input: &[u8]) -> Reading {
+    let mut t = Taken { reading: r, at: 0 };
+    let mut most = input.len();
+    while most > 0 {
+        if input.len() <= t.at {
+            return t.reading;
+        }
+        t = step(ram, marks, out, t, input);
+        most -= 1;
+    }
+    t.reading
+}
+
+// One piece of the input; none is the end.
+fn piece(
+    ram: &mut [u8],
+    marks: &mut [u8],
+    out: &mut [u8],
+    r: Reading,
+    input: &mut [u8],
+) -> Reading {
+    let got = libc::read(STDIN_FILENO, input);
+    let n = io::count(got, input);
+    if n == 0 {
+        let mut t = r;
+        t.more = false;
+        return t;
+    }
+    take(ram, marks, out, r, &input[..n])
+}
+
+// Nothing says that the input ends, so the pieces are counted down, from a number that no run uses up.
+fn pieces(
+    ram: &mut [u8],
+    marks: &mut [u8],
+    out: &mut [u8],
+    s: Session,
+    input: &mut [u8],
+) -> Reading {
+    let mut r = unread(s);
+    let mut turns = u64::MAX;
+    while turns > 0 {
+        if !r.more {
+            return r;
+        }
+        r = piece(ram, marks, out, r, input);
+        turns -= 1;
+    }
+    r
+}
+
+// "a last piece without LF is a line if not empty"
+fn last(ram: &mut [u8], marks: &mut [u8], out: &mut [u8], r: Reading) -> Session {
+    let line = r.line;
+    let s = r.session;
+    if line.begun {
+        return answer(ram, marks, out, s, line);
+    }
+    s
+}
+
+fn all_lines(ram: &mut [u8], marks: &mut [u8], out: &mut [u8], s: Session) -> Session {
+    let mut input = io::large_buffer();
+    let r = pieces(ram, marks, out, s, &mut input);
+    last(ram, marks, out, r)
+}
+
+fn begun(bench: bool, size: u32, place: usize) -> Session {
+    let m = spu::make(size);
+    let state = m.state;
+    Session {
+        bench,
+        state,
+        place,
+        open: true,
+    }
+}
+
+// ---- the programs
+
+fn bench_end(out: &mut [u8], s: Session) -> Session {
+    let t = roomy(out, s);
+    if t.state.control.doubt {
+        return say(out, t, b"end doubt\n");
+    }
+    say(out, t, b"end clear\n")
+}
+
+// L = 65,536.
+pub fn bench() {
+    let mut ram = [0u8; 65536];
+    let mut marks = [0u8; 4096];
+    let mut out = io::large_buffer();
+    let place = answers::title(&mut out, 0, b"bench", 65536);
+    let s = all_lines(&mut ram, &mut marks, &mut out, begun(true, 65536, place));
+    let t = bench_end(&mut out, s);
+    flush(&out, t);
+}
+
+fn replay_on(ram: &mut [u8], marks: &mut [u8], size: u32) {
+    let mut out = io::large_buffer();
+    let place = answers::title(&mut out, 0, b"replay", size);
+    let s = all_lines(ram, marks, &mut out, begun(false, size, place));
+    flush(&out, s);
+}
+
+fn is_text(a: &[u8], b: &[u8]) -> bool {
+    if a.len() != b.len() {
+        return false;
+    }
+    let mut i = 0;
+    while i < a.len() {
+        if a[i] != b[i] {
+            return false;
+        }
+        i += 1;
+    }
+    true
+}
+
+// L is the program's argument.
+pub fn replay() {
+    let mut text = [0u8; 8];
+    let n = os::arg(1, &mut text);
+    let one = os::arg_count() == 2;
+    if one & is_text(&text[..n], b"65536") {
+        let mut ram = [0u8; 65536];
+        let mut marks = [0u8; 4096];
+        replay_on(&mut ram, &mut marks, 65536);
+        return;
+    }
+    if one & is_text(&text[..n], b"524288") {
+        let mut ram = [0u8; 524288];
+        let mut marks = [0u8; 32768];
+        replay_on(&mut ram, &mut marks, 524288);
+        return;
+    }
+    io::write_all(STDERR_FILENO, b"usage: replay 65536 or replay 524288\n");
+}
