@@ -26,7 +26,7 @@ use Rattle.transfer.specs.Transfer.{Outward, inwardOf, outwardOf}
 use Rattle.tick.specs.declared.Pair.{Pair}
 use Rattle.tick.specs.Tick.{tickOf}
 use Rattle.spu.specs.declared.Transferred.{Transferred}
-use Rattle.spu.specs.Step.{Call, transferIn, transferOut, tick, tickFloats, view, Answer, written, value, moved, movedOut, pair, floats, made, viewed, Test, test, firstOf, lentTests, inTests, outTests, numberOf, refusedOf, acceptedOf, stepOf, chip, outcomeOf, Leaves, viewOf}
+use Rattle.spu.specs.Step.{Call, transferIn, transferOut, tick, tickFloats, view, Answer, written, value, moved, movedOut, pair, floats, made, viewed, Test, test, firstOf, notInward, notOutward, lentTests, moveTests, numberOf, refusedOf, acceptedOf, stepOf, chip, outcomeOf, Leaves, viewOf}
 use Rattle.spu.proofs.Range.{passed-first, passed-rest}
 
 -- ---- what an accepted call may rely on
@@ -59,12 +59,8 @@ module _ (s : State) (ts : List Test) {n : ℕ} where
 count-fits : (ts : List Test) (k : ℕ) → firstOf (test (eqb k 0 || ltb 32 k) 7 ∷ ts) ≡ 0 → Fits w32 k
 count-fits ts k e = let h = ltb-false 32 k (or-rest (eqb k 0) (ltb 32 k) (passed-first _ 6 _ e)) in record { fits = omega arith }
 
-module _ (s : State) (ram marks k : ℕ) {n : ℕ} where
-  pub in-fits : n ≡ firstOf (lentTests s ram marks (inTests s k)) → n ≡ 0 → Fits w32 k
-  in-fits e z = count-fits [] k (passed-rest _ 5 _ (passed-rest _ 1 _ (passed-rest _ 0 _ (sym e ∙ z))))
-
-  pub out-fits : n ≡ firstOf (lentTests s ram marks (outTests s k)) → n ≡ 0 → Fits w32 k
-  out-fits e z = count-fits [] k (passed-rest _ 5 _ (passed-rest _ 1 _ (passed-rest _ 0 _ (sym e ∙ z))))
+pub move-fits : (s : State) (ram marks k : ℕ) (w : Bool) {n : ℕ} → n ≡ firstOf (lentTests s ram marks (moveTests w k)) → n ≡ 0 → Fits w32 k
+move-fits s ram marks k w e z = count-fits [] k (passed-rest _ 5 _ (passed-rest _ 1 _ (passed-rest _ 0 _ (sym e ∙ z))))
 
 -- ---- refused, and accepted
 
@@ -176,7 +172,7 @@ refusal n s = record { number = n; count = 0; irq = false; doubt = false; state 
 abbrev acceptance : State → ℕ → ByteAddress → Watch → Watch → Transferred
 acceptance s k a v w = record { number = 0; count = k; irq = w .latch && not (v .latch); doubt = w .doubt && not (v .doubt); state = watchedOf (withTransfer s a) w }
 
-module _ (s : State) (vs : List ℕ) (r m : List ℕ) {n : ℕ} (e : n ≡ firstOf (lentTests s (length r) (length m) (inTests s (length vs)))) {c : Transferred} where
+module _ (s : State) (vs : List ℕ) (r m : List ℕ) {n : ℕ} (e : n ≡ firstOf (lentTests s (length r) (length m) (moveTests (notInward s) (length vs)))) {c : Transferred} where
   pub in-no : (n ≡ 0 → ⊥) → c ≡ refusal n s → Leaves (transferIn vs) s r m (moved (c .number) (c .count)) (c .irq) (c .doubt) (c .state) r m
   unfolding numberOf refusedOf
   in-no z f = rw f (leaves-refused (transferIn vs) s r m e z)
@@ -186,7 +182,7 @@ module _ (s : State) (vs : List ℕ) (r m : List ℕ) {n : ℕ} (e : n ≡ first
   unfolding numberOf acceptedOf
   in-yes z ev d f = rw (f, ev) (leaves-works (transferIn vs) s r m e z refl (does-bind _ (rw ev at d) (does-done _ _)))
 
-module _ (s : State) (b : List ℕ) (r m : List ℕ) {n : ℕ} (e : n ≡ firstOf (lentTests s (length r) (length m) (outTests s (length b)))) {c : Transferred} where
+module _ (s : State) (b : List ℕ) (r m : List ℕ) {n : ℕ} (e : n ≡ firstOf (lentTests s (length r) (length m) (moveTests (notOutward s) (length b)))) {c : Transferred} where
   pub out-no : (n ≡ 0 → ⊥) → c ≡ refusal n s → Leaves (transferOut b) s r m (movedOut (c .number) (c .count) b) (c .irq) (c .doubt) (c .state) r m
   unfolding numberOf refusedOf
   out-no z f = rw f (leaves-refused (transferOut b) s r m e z)

@@ -10,7 +10,7 @@ use Rattle.chip.specs.declared.State.{State}
 use Rattle.chip.specs.State.{freshOf, sizeOk, stateOk}
 use Rattle.chip.specs.Registers.{listed, readOnly, notWritten, notRead, writeOf, readOf}
 use Rattle.chip.proofs.Tests.{ok-sized}
-use Rattle.spu.specs.Step.{write, read, reset, view, written, value, made, Test, test, firstOf, modeOf, badCount, badBlock, lentTests, inTests, outTests, numberOf, refusedOf, acceptedOf, stepOf, Gives, makeOf}
+use Rattle.spu.specs.Step.{write, read, reset, view, written, value, made, Test, test, firstOf, badCount, badBlock, lentTests, moveTests, numberOf, refusedOf, acceptedOf, stepOf, Gives, makeOf}
 use Rattle.spu.proofs.Range.{accepted-ok, accepted-listed, passed-first, passed-rest}
 
 -- ---- making
@@ -99,25 +99,20 @@ module _ (s : State) (ram marks : ℕ) (ts : List Test) where
 pub lent-0 : (s : State) (ram marks : ℕ) {a : Bool} → (not (eqb ram (s .choices .size)) || not (eqb marks (s .choices .size / 16))) ≡ false → a ≡ stateOk s → not a ≡ false → 0 ≡ firstOf (lentTests s ram marks [])
 lent-0 s ram marks t p u = later _ 1 _ t (later _ 2 _ (rw (← p) u) none)
 
--- a transfer's own tests: m is the mode and b the test of the count, as the code has them
-module _ (s : State) (n : ℕ) {m : ℕ} (e : m ≡ modeOf s) where
-  pub in-6 : not (eqb m 1 || eqb m 2) ≡ true → 6 ≡ firstOf (inTests s n)
-  in-6 t = here _ 6 _ (rw (← e) t)
+-- a transfer's own tests: b is the code's test of the count
+module _ (wrong : Bool) (n : ℕ) where
+  pub move-6 : wrong ≡ true → 6 ≡ firstOf (moveTests wrong n)
+  move-6 t = here _ 6 _ t
 
-  pub in-7 : {b : Bool} → not (eqb m 1 || eqb m 2) ≡ false → b ≡ badCount n → b ≡ true → 7 ≡ firstOf (inTests s n)
-  in-7 t f u = later _ 6 _ (rw (← e) t) (here _ 7 _ (rw (← f) u))
+  pub move-7 : {b : Bool} → wrong ≡ false → b ≡ badCount n → b ≡ true → 7 ≡ firstOf (moveTests wrong n)
+  move-7 t f u = later _ 6 _ t (here _ 7 _ (rw (← f) u))
 
-  pub in-0 : {b : Bool} → not (eqb m 1 || eqb m 2) ≡ false → b ≡ badCount n → b ≡ false → 0 ≡ firstOf (inTests s n)
-  in-0 t f u = later _ 6 _ (rw (← e) t) (later _ 7 _ (rw (← f) u) none)
+  pub move-0 : {b : Bool} → wrong ≡ false → b ≡ badCount n → b ≡ false → 0 ≡ firstOf (moveTests wrong n)
+  move-0 t f u = later _ 6 _ t (later _ 7 _ (rw (← f) u) none)
 
-  pub out-6 : (m ≡ 3 → ⊥) → 6 ≡ firstOf (outTests s n)
-  out-6 t = here _ 6 _ (rw (← e, ne-eqb m 3 t))
-
-  pub out-7 : {b : Bool} → m ≡ 3 → b ≡ badCount n → b ≡ true → 7 ≡ firstOf (outTests s n)
-  out-7 t f u = later _ 6 _ (rw (← e, eq-eqb m 3 t)) (here _ 7 _ (rw (← f) u))
-
-  pub out-0 : {b : Bool} → m ≡ 3 → b ≡ badCount n → b ≡ false → 0 ≡ firstOf (outTests s n)
-  out-0 t f u = later _ 6 _ (rw (← e, eq-eqb m 3 t)) (later _ 7 _ (rw (← f) u) none)
+-- b is the code's test of the mode
+pub move-by : (s : State) (ram marks k : ℕ) {b : Bool} (w : Bool) {n : ℕ} → b ≡ w → n ≡ firstOf (lentTests s ram marks (moveTests b k)) → n ≡ firstOf (lentTests s ram marks (moveTests w k))
+move-by s ram marks k w e f = rw e at f
 
 -- a block view's: b is the code's test of the state
 module _ (s : State) (a ram marks : ℕ) where

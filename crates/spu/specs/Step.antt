@@ -66,9 +66,16 @@ otherLent s ram marks = otherRam s ram || not (eqb marks (s .choices .size / 16)
 abbrev outside : State → Bool
 outside s = not (stateOk s)
 
--- 6: the transfer mode, "applied mode"
-abbrev pub modeOf : State → ℕ
+-- 6: the transfer mode
+abbrev modeOf : State → ℕ
 modeOf s = field 4 2 (s .control .applied)
+
+-- "applied mode not 1 or 2 (inward), not 3 (outward)"
+abbrev pub notInward : State → Bool
+notInward s = not (eqb (modeOf s) 1 || eqb (modeOf s) 2)
+
+abbrev pub notOutward : State → Bool
+notOutward s = not (eqb (modeOf s) 3)
 
 -- 7: "0 or more than 32 halfwords"
 abbrev pub badCount : ℕ → Bool
@@ -82,17 +89,15 @@ badBlock s a = not (eqb (a % 8) 0) || ltb (s .choices .size - 16) a
 abbrev pub lentTests : State → ℕ → ℕ → List Test → List Test
 lentTests s ram marks ts = test (otherLent s ram marks) 1 ∷ test (outside s) 2 ∷ ts
 
-abbrev pub inTests : State → ℕ → List Test
-inTests s n = test (not (eqb (modeOf s) 1 || eqb (modeOf s) 2)) 6 ∷ test (badCount n) 7 ∷ []
-
-abbrev pub outTests : State → ℕ → List Test
-outTests s n = test (not (eqb (modeOf s) 3)) 6 ∷ test (badCount n) 7 ∷ []
+-- the tests of a transfer, of whether the mode is another's
+abbrev pub moveTests : Bool → ℕ → List Test
+moveTests wrong n = test wrong 6 ∷ test (badCount n) 7 ∷ []
 
 abbrev pub testsOf : Call → State → ℕ → ℕ → List Test
 testsOf (write offset v) s ram marks = test (outside s) 2 ∷ test (not (listed offset)) 3 ∷ test (readOnly offset) 4 ∷ test (notWritten offset v) 5 ∷ []
 testsOf (read offset) s ram marks = test (outside s) 2 ∷ test (not (listed offset)) 3 ∷ test (notRead offset) 5 ∷ []
-testsOf (transferIn vs) s ram marks = lentTests s ram marks (inTests s (length vs))
-testsOf (transferOut b) s ram marks = lentTests s ram marks (outTests s (length b))
+testsOf (transferIn vs) s ram marks = lentTests s ram marks (moveTests (notInward s) (length vs))
+testsOf (transferOut b) s ram marks = lentTests s ram marks (moveTests (notOutward s) (length b))
 testsOf (tick left right) s ram marks = lentTests s ram marks []
 testsOf (tickFloats left right) s ram marks = lentTests s ram marks []
 testsOf reset s ram marks = test (outside s) 2 ∷ []

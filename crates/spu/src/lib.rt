@@ -6,7 +6,7 @@ ghost use Prim.Native.Nat.{_-_};
 ghost use lib.Dec.{eqb};
 ghost use lib.ListN.{length, take, drop};
 ghost use Rattle.chip.specs.State.{withTransfer, watchedOf};
-ghost use Rattle.spu.specs.Step.{written, value as valued, moved, movedOut, pair, floats, made, write as writing, read as reading, transferIn, transferOut, tick as ticking, tickFloats, reset as resetting, view, viewed, firstOf, modeOf, badCount, lentTests, inTests, outTests, numberOf, viewOf, Gives, Leaves, makeOf};
+ghost use Rattle.spu.specs.Step.{written, value as valued, moved, movedOut, pair, floats, made, write as writing, read as reading, transferIn, transferOut, tick as ticking, tickFloats, reset as resetting, view, viewed, firstOf, badCount, notInward, notOutward, lentTests, moveTests, numberOf, viewOf, Gives, Leaves, makeOf};
 use chip::State;
 use soundram::Watch;
 use stereo::Stereo;
@@ -204,37 +204,29 @@ fn bad_count(n: usize) -> bool
     (n == 0) | (32 < n)
 }
 
-fn mode(s: State) -> u16
-    ensures { λ r. ⌜ r ≡ modeOf s ⌝ }
+// Whether the transfer mode is another's.
+
+fn not_inward(s: State) -> bool
+    ensures { λ r. ⌜ r ≡ notInward s ⌝ }
 {
-    s.control.applied / 16 % 4
+    let mode = s.control.applied / 16 % 4;
+    !((mode == 1) | (mode == 2))
 }
 
-fn in_number(s: State, ram: usize, marks: usize, count: usize) -> u8
-    ensures { λ r. ⌜ r ≡ firstOf (lentTests s ram marks (inTests s count)) ⌝ }
+fn not_outward(s: State) -> bool
+    ensures { λ r. ⌜ r ≡ notOutward s ⌝ }
+{
+    s.control.applied / 16 % 4 != 3
+}
+
+fn transfer_number(s: State, ram: usize, marks: usize, wrong: bool, count: usize) -> u8
+    ensures { λ r. ⌜ r ≡ firstOf (lentTests s ram marks (moveTests wrong count)) ⌝ }
 {
     let number = lent_number(s, ram, marks);
     if number != 0 {
         return number;
     }
-    let m = mode(s);
-    if !((m == 1) | (m == 2)) {
-        return 6;
-    }
-    if bad_count(count) {
-        return 7;
-    }
-    0
-}
-
-fn out_number(s: State, ram: usize, marks: usize, count: usize) -> u8
-    ensures { λ r. ⌜ r ≡ firstOf (lentTests s ram marks (outTests s count)) ⌝ }
-{
-    let number = lent_number(s, ram, marks);
-    if number != 0 {
-        return number;
-    }
-    if mode(s) != 3 {
+    if wrong {
         return 6;
     }
     if bad_count(count) {
@@ -276,7 +268,7 @@ fn accepted(s: State, count: u32, w: Watch, m: Moved) -> Transferred
 pub fn transfer_in(s: State, ram: &mut [u8], marks: &mut [u8], values: &[u16]) -> Transferred
     ensures { λ r. ⌜ Leaves (transferIn (now (values .entry))) s (now (ram .entry)) (now (marks .entry)) (moved (r .number) (r .count)) (r .irq) (r .doubt) (r .state) (now (ram .exit)) (now (marks .exit)) ⌝ }
 {
-    let number = in_number(s, ram.len(), marks.len(), values.len());
+    let number = transfer_number(s, ram.len(), marks.len(), not_inward(s), values.len());
     if number != 0 {
         return refused(number, s);
     }
@@ -290,7 +282,7 @@ pub fn transfer_in(s: State, ram: &mut [u8], marks: &mut [u8], values: &[u16]) -
 pub fn transfer_out(s: State, ram: &[u8], marks: &[u8], out: &mut [u16]) -> Transferred
     ensures { λ r. ⌜ Leaves (transferOut (now (out .entry))) s (now (ram .entry)) (now (marks .entry)) (movedOut (r .number) (r .count) (now (out .exit))) (r .irq) (r .doubt) (r .state) (now (ram .entry)) (now (marks .entry)) ⌝ }
 {
-    let number = out_number(s, ram.len(), marks.len(), out.len());
+    let number = transfer_number(s, ram.len(), marks.len(), not_outward(s), out.len());
     if number != 0 {
         return refused(number, s);
     }

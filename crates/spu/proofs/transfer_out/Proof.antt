@@ -1,11 +1,17 @@
+use lib.ListN.{length}
 use Rattle.chip.proofs.Tests.{ok-transfer}
-use Rattle.spu.proofs.Lent.{lent-ok, lent-some, lent-all, out-fits, out-no, out-yes}
+use Rattle.spu.specs.Step.{notOutward}
+use Rattle.spu.proofs.Numbers.{move-by}
+use Rattle.spu.proofs.Lent.{lent-ok, lent-some, lent-all, move-fits, out-no, out-yes}
 use borrow.Author.Needs.{needs}
 use Rattle.spu.proofs.transfer_out.Statement.{statement}
 use Rattle.spu.proofs.transfer_out.Tie as tie
 
-out-number-requires : tie.Need-out-number-requires
-out-number-requires c κs = search needs
+not-outward-requires : tie.Need-not-outward-requires
+not-outward-requires c κs = search needs
+
+transfer-number-requires : tie.Need-transfer-number-requires
+transfer-number-requires c κs = search needs
 
 refused-requires : tie.Need-refused-requires
 refused-requires c κs = search needs
@@ -14,28 +20,32 @@ returns : tie.Need-returns
 returns c =
     let a = c .before in
     let b = a .before in
-    out-no _ _ _ _ (b .out-number .ensures) (a .if1 .taken) (c .refused .ensures)
+    let d = b .before in
+    let e = d .before .before .before .before in
+    out-no _ _ _ _ (move-by (e .args .s) _ _ (length (e .args .out .now)) (notOutward (e .args .s)) (d .not-outward .ensures) (b .transfer-number .ensures)) (a .if1 .taken) (c .refused .ensures)
 
 cast-count : tie.Need-cast-count
 cast-count c =
     let a = c .before in
-    let b = a .before .before .before .before in
-    out-fits (b .args .s) _ _ _ (a .out-number .ensures) (c .if1 .left)
+    let b = a .before .before .before .before .before in
+    move-fits (b .args .s) _ _ _ _ (a .transfer-number .ensures) (c .if1 .left)
 
 watch-requires : tie.Need-watch-requires
 watch-requires c κs =
     let a = c .before in
-    let b = a .before .before .before .before in
-    lent-some (b .args .s) _ _ _ (a .out-number .ensures) (c .if1 .left)
+    let b = a .before in
+    let d = b .before .before .before .before in
+    lent-some (d .args .s) _ _ _ (a .transfer-number .ensures) (c .if1 .left)
 
 outward-requires : tie.Need-outward-requires
 outward-requires c κs =
     let a = c .before .before in
     let b = a .before in
-    let d = b .before .before .before .before in
-    let e = b .out-number .ensures in
+    let d = b .before in
+    let e = d .before .before .before .before in
+    let u = b .transfer-number .ensures in
     let z = a .if1 .left in
-    (lent-all (d .args .s) _ _ _ e z, ok-transfer _ (lent-ok (d .args .s) _ _ _ e z) .below)
+    (lent-all (e .args .s) _ _ _ u z, ok-transfer _ (lent-ok (e .args .s) _ _ _ u z) .below)
 
 accepted-requires : tie.Need-accepted-requires
 accepted-requires c κs = search needs
@@ -49,13 +59,16 @@ returns-2 c =
     let b = a .before .before in
     let d = b .before in
     let e = d .before in
-    out-yes _ _ _ _ (e .out-number .ensures) (d .if1 .left) (b .watch .ensures) (a .outward .ensures) (c .accepted .ensures)
+    let f = e .before in
+    let g = f .before .before .before .before in
+    out-yes _ _ _ _ (move-by (g .args .s) _ _ (length (g .args .out .now)) (notOutward (g .args .s)) (f .not-outward .ensures) (e .transfer-number .ensures)) (d .if1 .left) (b .watch .ensures) (a .outward .ensures) (c .accepted .ensures)
 
 pub transfer-out-spec : {M : Type 1} → statement M
 transfer-out-spec =
     tie.close
     (tie.spec
-    out-number-requires
+    not-outward-requires
+    transfer-number-requires
     refused-requires
     returns
     cast-count
