@@ -31,7 +31,7 @@ both-sides-requires : tie.Need-both-sides-requires Inv-loop μ-loop
 both-sides-requires c κs = search needs
 
 join-requires : tie.Need-join-requires Inv-loop μ-loop
-join-requires c κs = let l = c .before .before in (sides-few _ _ (l .loop-test .taken) (l .before .loop .inv .3), c .both-sides .ensures .1)
+join-requires c κs = let l = c .before .before in (sides-few _ _ (omega (arith, l .loop-test .taken)) (l .before .loop .inv .3), c .both-sides .ensures .1)
 
 has-requires : tie.Need-has-requires Inv-loop μ-loop
 has-requires c κs = search needs
@@ -43,7 +43,7 @@ join-requires-2 : tie.Need-join-requires-2 Inv-loop μ-loop
 join-requires-2 c κs =
     let b = c .before .before .before in
     let l = b .before .before in
-    (sides-few _ _ (l .loop-test .taken) (l .before .loop .inv .4), gated-in _ _ (c .gate .ensures) (b .both-sides .ensures .1))
+    (sides-few _ _ (omega (arith, l .loop-test .taken)) (l .before .loop .inv .4), gated-in _ _ (c .gate .ensures) (b .both-sides .ensures .1))
 
 add-n : tie.Need-add-n Inv-loop μ-loop
 add-n c = search needs
@@ -61,7 +61,7 @@ loop-again c =
     let h = b .both-sides .ensures in (
       omega (arith, l .loop-test .taken),
       mixed-dry _ _ _ (search (needs, b .before .both-sides-arg .given)) (h .0) (v .1) (j .join .ensures),
-      mixed-wet _ _ _ (search (needs, b .before .both-sides-arg .given)) (h .0) _ (l .before .before .flags .ensures) (l .loop-test .taken) (v .2) (g .before .has .ensures) (g .gate .ensures) (c .join2 .ensures),
+      mixed-wet _ _ _ (search (needs, b .before .both-sides-arg .given)) (h .0) _ (l .before .before .flags .ensures) (omega (arith, l .loop-test .taken)) (v .2) (g .before .has .ensures) (g .gate .ensures) (c .join2 .ensures),
       joined-in _ _ _ (j .join .ensures) (v .3) (h .1),
       joined-in _ _ _ (c .join2 .ensures) (v .4) (gated-in _ _ (g .gate .ensures) (h .1)),
     )

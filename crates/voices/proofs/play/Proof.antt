@@ -55,14 +55,13 @@ loop-again : tie.Need-loop-again Inv-loop μ-loop
 loop-again c =
     let l = c .before .before .before .before in
     let s = l .before .before .before .before .before .before in
-    play-idle (s .pre .1 .sized) (l .before .loop .inv) (l .loop-test .taken) (c .before .is-idle .ensures) (c .if1 .taken)
+    play-idle (s .pre .1 .sized) (l .before .loop .inv) (omega (arith, l .loop-test .taken)) (c .before .is-idle .ensures) (c .if1 .taken)
 
 tick-one-requires : tie.Need-tick-one-requires Inv-loop μ-loop
 tick-one-requires c κs =
     let l = c .before .before .before .before .before .before in
     let s = l .before .before .before .before .before .before in
-    let h = l .loop-test .taken in
-    (s .pre .0, h, s .pre .1, l .before .loop .inv .all .each _ h)
+    (s .pre .0, omega (arith, l .loop-test .taken), s .pre .1, l .before .loop .inv .all .each _ (omega (arith, l .loop-test .taken)))
 
 mul-voices : tie.Need-mul-voices Inv-loop μ-loop
 mul-voices c = record { fits = omega (arith, c .before .before .before .before .before .before .before .before .before .loop-test .taken) }
@@ -87,27 +86,26 @@ loop-again-2 c =
     let t = c .before .before .before in
     let l = t .before .before .before .before .before .before .before in
     let s = l .before .before .before .before .before .before in
-    play-more (s .pre .1 .sized) (l .before .loop .inv) (l .loop-test .taken) refl (t .tick-one .ensures) (search (needs, c .struct-told .given))
+    play-more (s .pre .1 .sized) (l .before .loop .inv) (omega (arith, l .loop-test .taken)) refl (t .tick-one .ensures) (search (needs, c .struct-told .given))
 
 settings-by-requires : tie.Need-settings-by-requires Inv-loop μ-loop
 settings-by-requires c κs =
     let l = c .before .before .before .before .before .before in
     let f = l .before .before in
-    (l .loop-test .taken, f .before .modulation .ensures, f .flags .ensures)
+    (omega (arith, l .loop-test .taken), f .before .modulation .ensures, f .flags .ensures)
 
 glide-requires : tie.Need-glide-requires Inv-loop μ-loop
 glide-requires c κs =
     let l = c .before .before .before .before .before .before .before in
     let s = l .before .before .before .before .before .before in
-    let r = l .before .loop .inv .all .each _ (l .loop-test .taken) in
+    let r = l .before .loop .inv .all .each (l .before .loop .n) (omega (arith, l .loop-test .taken)) in
     (s .pre .0, r .counter, r .index, r .envelope .level)
 
 tick-one-requires-2 : tie.Need-tick-one-requires-2 Inv-loop μ-loop
 tick-one-requires-2 c κs =
     let l = c .before .before .before .before .before .before .before .before .before .before in
     let s = l .before .before .before .before .before .before in
-    let h = l .loop-test .taken in
-    (s .pre .0, h, s .pre .1, l .before .loop .inv .all .each _ h)
+    (s .pre .0, omega (arith, l .loop-test .taken), s .pre .1, l .before .loop .inv .all .each _ (omega (arith, l .loop-test .taken)))
 
 mul-voices-2 : tie.Need-mul-voices-2 Inv-loop μ-loop
 mul-voices-2 c = record { fits = omega (arith, c .before .before .before .before .before .before .before .before .before .before .before .before .before .loop-test .taken) }
@@ -132,7 +130,7 @@ loop-again-3 c =
     let t = c .before .before .before in
     let l = t .before .before .before .before .before .before .before .before .before .before .before in
     let s = l .before .before .before .before .before .before in
-    play-more (s .pre .1 .sized) (l .before .loop .inv) (l .loop-test .taken) refl (t .tick-one2 .ensures) (search (needs, c .struct-told2 .given))
+    play-more (s .pre .1 .sized) (l .before .loop .inv) (omega (arith, l .loop-test .taken)) refl (t .tick-one2 .ensures) (search (needs, c .struct-told2 .given))
 
 cast-index : tie.Need-cast-index Inv-loop μ-loop
 cast-index c = search needs
@@ -177,7 +175,7 @@ loop-again-4 c =
     let l = j .before .before .before in
     let s = l .before .before .before .before .before .before in
     let e = g .glide .ensures in
-    play-more (s .pre .1 .sized) (l .before .loop .inv) (l .loop-test .taken) (b .settings-by .ensures)
+    play-more (s .pre .1 .sized) (l .before .loop .inv) (omega (arith, l .loop-test .taken)) (b .settings-by .ensures)
     (tick-stays _ _ _ _ _ _ _ (j .is-idle .ensures) (i .if1 .left) (f .if2 .left) (e .0) (e .1) (y .if3 .left) (e .3) (waits-ticked _ (w .waits .ensures) (c .before .if4 .taken) _ _))
     (search (needs, u .struct-told3 .given))
 
@@ -209,7 +207,7 @@ loop-again-5 c =
     let l = j .before .before .before in
     let s = l .before .before .before .before .before .before in
     let e = g .glide .ensures in
-    play-more (s .pre .1 .sized) (l .before .loop .inv) (l .loop-test .taken) (b .settings-by .ensures)
+    play-more (s .pre .1 .sized) (l .before .loop .inv) (omega (arith, l .loop-test .taken)) (b .settings-by .ensures)
     (tick-stays _ _ _ _ _ _ _ (j .is-idle .ensures) (i .if1 .left) (f .if2 .left) (e .0) (e .1) (y .if3 .left) (e .3) (c .tick .ensures))
     (search (needs, u .struct-told3 .given))
 
