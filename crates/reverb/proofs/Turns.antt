@@ -1,9 +1,8 @@
 -- The programs of a turn, from what the code's parts do. Assumes nothing.
-use mathlib.Core.Path.{_≡_, refl, sym, subst, _∙_, ap}
+use mathlib.Core.Path.{_≡_, _∙_, ap}
 use mathlib.Core.Bool.{Bool, true, false, not}
 use mathlib.Core.List.{List}
-use Prim.Native.Nat.{ℕ, suc, _+_, _-_, _*_, _%_, _≤_, _<_}
-use native.Mathlib.Nat.{mod-eq-of-lt, mod-lt}
+use Prim.Native.Nat.{ℕ, suc, _+_, _-_, _%_, _≤_, _<_}
 use native.Mathlib.Omega.{arith}
 use lib.IntN.{ℤ, pos, negsuc, _+ℤ_, _-ℤ_}
 use mir.Syntax.{w16, w32}
@@ -14,7 +13,6 @@ use Rattle.fixed.specs.Signed.{signed, moduloOf, bitsOf}
 use Rattle.fixed.specs.Arithmetic.{saturated, productOf}
 use Rattle.fixed.proofs.Parts.{add-is, sub-parts, eq-parts}
 use Rattle.fixed.proofs.Number.{Num, res-in}
-use Rattle.registers.specs.Map.{registerAt}
 use Rattle.soundram.specs.declared.ByteAddress.{ByteAddress}
 use Rattle.soundram.specs.declared.Reader.{Reader}
 use Rattle.soundram.specs.Address.{halfwordOf}
@@ -22,7 +20,7 @@ use Rattle.soundram.specs.Program.{Mem, Does, get, put}
 use Rattle.soundram.proofs.Programs.{does-done, does-give, does-bind, does-yes, does-no}
 use Rattle.reverb.specs.declared.Area.{Area}
 use Rattle.reverb.specs.declared.Turning.{Turning}
-use Rattle.reverb.specs.Reverb.{addressAt, AreaIn, sideOf, whoOf, fetch, store, volumeAt, bytesAt, reflectedOf, combedOf, own, reflection, combs, allPass, reflectionsOf, allPasses, turnOf}
+use Rattle.reverb.specs.Reverb.{addressAt, AreaIn, sideOf, whoOf, fetch, store, volumeAt, bytesAt, reflectedOf, combedOf, reflection, combs, allPass, reflectionsOf, allPasses, turnOf}
 
 -- ---- sides
 

@@ -2,10 +2,10 @@
 use mathlib.Core.Path.{_≡_, refl, sym, ap, subst, _∙_}
 use mathlib.Core.Bool.{Bool, true, false, cond, _||_, _&&_, not}
 use mathlib.Core.List.{List, [], _∷_}
-use Prim.Native.Nat.{ℕ, zero, suc, min, _+_, _-_, _*_, _/_, _%_, _≤_, _<_}
+use Prim.Native.Nat.{ℕ, min, _+_, _-_, _/_, _%_, _≤_, _<_}
 use native.Mathlib.Nat.{min-eq-left}
 use native.Mathlib.Omega.{arith}
-use borrow.Author.Tests.{eqb-true, eqb-false, ltb-false, not-false, ne-eqb}
+use borrow.Author.Tests.{eqb-true, ltb-false, not-false, ne-eqb}
 use lib.Dec.{eqb, ltb}
 use lib.ListN.{length, take, drop, length-take, length-drop}
 use lib.IntN.{ℤ, pos}
@@ -16,13 +16,13 @@ use Rattle.stereo.specs.Float.{stereoOf}
 use Rattle.soundram.specs.declared.ByteAddress.{ByteAddress}
 use Rattle.soundram.specs.declared.Watch.{Watch}
 use Rattle.soundram.specs.Address.{Lent}
-use Rattle.soundram.specs.Program.{Prog, done, Mem, memOf, Result, run, Does, trace, bind}
-use Rattle.soundram.specs.Calls.{Reply, Doing, still, works, Outcome, outcome}
+use Rattle.soundram.specs.Program.{Prog, done, memOf, Result, run, Does, trace}
+use Rattle.soundram.specs.Calls.{Reply, still, works, Outcome, outcome}
 use Rattle.soundram.proofs.Programs.{run-bind, does-done, does-bind}
 use Rattle.chip.specs.declared.State.{State}
-use Rattle.chip.specs.State.{withTransfer, sizeOk, stateOk, watchOf, watchedOf}
+use Rattle.chip.specs.State.{withTransfer, stateOk, watchOf, watchedOf}
 use Rattle.chip.proofs.Tests.{ok-sized}
-use Rattle.transfer.specs.Transfer.{Outward, inwardOf, outwardOf}
+use Rattle.transfer.specs.Transfer.{inwardOf, outwardOf}
 use Rattle.tick.specs.declared.Pair.{Pair}
 use Rattle.tick.specs.Tick.{tickOf}
 use Rattle.spu.specs.declared.Transferred.{Transferred}

@@ -1,29 +1,24 @@
 -- Every accepted call leaves a state in range. Assumes nothing.
 use mathlib.Core.Path.{_≡_, refl, sym, subst}
 use mathlib.Core.Bool.{Bool, true, false, cond}
-use mathlib.Core.List.{List, [], _∷_}
-use Prim.Native.Nat.{ℕ, zero, suc, _+_, _-_, _%_, _≤_}
+use mathlib.Core.List.{List, _∷_}
+use Prim.Native.Nat.{ℕ, suc}
 use native.Mathlib.Omega.{arith}
 use lib.Dec.{eqb}
 use lib.ListN.{length}
-use lib.IntN.{ℤ}
-use borrow.Author.Tests.{eqb-false, not-false}
-use Rattle.noise.proofs.Range.{ticked-in}
+use borrow.Author.Tests.{not-false}
 use Rattle.soundram.specs.declared.ByteAddress.{ByteAddress}
 use Rattle.soundram.specs.Address.{forwardOf, Sized}
 use Rattle.soundram.specs.declared.Watch.{Watch}
 use Rattle.soundram.specs.Calls.{Reply, Doing, still, works, outcome}
 use Rattle.soundram.proofs.Addresses.{forward-multiple, forward-below}
-use Rattle.soundram.proofs.Programs.{Always, ends, always-any, always-bind, always-run}
-use Rattle.voices.specs.declared.Sums.{Sums}
-use Rattle.voices.proofs.Turns.{voices-in}
-use Rattle.chip.specs.declared.Reverb.{Reverb}
+use Rattle.soundram.proofs.Programs.{Always, ends, always-bind, always-run}
 use Rattle.chip.specs.declared.State.{State}
-use Rattle.chip.specs.State.{baseOf, stateOk, watchedOf}
+use Rattle.chip.specs.State.{stateOk, watchedOf}
 use Rattle.chip.specs.Registers.{listed}
-use Rattle.chip.specs.Range.{Shaped, PlaceIn, TransferIn, InRange}
+use Rattle.chip.specs.Range.{Shaped, TransferIn, InRange}
 use Rattle.chip.proofs.Tests.{in-range, sized}
-use Rattle.chip.proofs.Ranges.{placed-even, placed-most, write-in, transfer-in, fresh-state-in}
+use Rattle.chip.proofs.Ranges.{write-in, transfer-in, fresh-state-in}
 use Rattle.transfer.proofs.Moves.{inward-keeps, outward-keeps}
 use Rattle.tick.proofs.Range.{tick-in}
 use Rattle.spu.specs.Step.{Call, write, read, transferIn, transferOut, tick, tickFloats, reset, view, Answer, Test, firstOf, numberOf, refusedOf, acceptedOf, stepOf, chip}

@@ -1,8 +1,8 @@
 -- A tick's stages, from what the code's parts give. Primed names are values as the calls have them. Assumes nothing.
-use mathlib.Core.Path.{_≡_, refl, sym, _∙_}
+use mathlib.Core.Path.{_≡_}
 use mathlib.Core.Bool.{Bool, true, false, cond, _&&_, not}
 use mathlib.Core.List.{List}
-use Prim.Native.Nat.{ℕ, _+_, _-_, _/_, _%_, _^_, _≤_, _<_}
+use Prim.Native.Nat.{ℕ, _+_, _/_, _%_, _^_}
 use native.Mathlib.Omega.{arith}
 use borrow.Author.Tests.{eq-eqb, ne-eqb, not-true, not-false}
 use lib.Dec.{eqb}
@@ -14,21 +14,19 @@ use Rattle.fixed.proofs.Parts.{add-is, eq-parts}
 use Rattle.noise.specs.declared.Noise.{Noise}
 use Rattle.noise.specs.Noise.{tickedOf}
 use Rattle.soundram.specs.declared.ByteAddress.{ByteAddress}
-use Rattle.soundram.specs.Address.{addressOf, halfwordOf, Sized}
+use Rattle.soundram.specs.Address.{addressOf, Sized}
 use Rattle.soundram.specs.Program.{Mem, Does, put, repeat}
-use Rattle.soundram.proofs.Programs.{does-done, does-give, does-bind}
+use Rattle.soundram.proofs.Programs.{does-give, does-bind}
 use Rattle.registers.specs.Map.{registerAt}
 use Rattle.voice.specs.declared.Voice.{Voice}
 use Rattle.voices.specs.declared.Captured.{Captured}
 use Rattle.voices.specs.declared.Sums.{Sums}
 use Rattle.voices.specs.Voices.{noSums, voiceAt}
-use Rattle.reverb.specs.declared.Area.{Area}
 use Rattle.reverb.specs.declared.Turning.{Turning}
 use Rattle.reverb.specs.Reverb.{AreaIn, sideOf, turnOf}
 use Rattle.chip.specs.declared.Held.{Held}
 use Rattle.chip.specs.declared.Reverb.{Reverb}
 use Rattle.chip.specs.declared.State.{State}
-use Rattle.chip.specs.State.{baseAt}
 use Rattle.chip.specs.Range.{PlaceIn}
 use Rattle.tick.specs.declared.Pair.{Pair}
 use Rattle.tick.specs.Tick.{cdOf, mixOf, pairOf, captureAt, captureBoth, captureOf, captureNext, turningOf, inputOf, enteringOf, placeAfter, heldOf, reverbAfter, reverbOf, tickOf}

@@ -1,17 +1,15 @@
 -- Transfers, from what the code's parts do; they are safe, and keep the address within sound RAM and even. Assumes nothing.
-use mathlib.Core.Path.{_≡_, refl}
+use mathlib.Core.Path.{_≡_}
 use mathlib.Core.Bool.{true}
 use mathlib.Core.List.{List}
-use Prim.Native.Nat.{ℕ, zero, suc, _+_, _%_, _≤_, _<_}
-use native.Mathlib.Omega.{arith}
-use lib.ListN.{length, getD, set}
+use Prim.Native.Nat.{ℕ}
+use lib.ListN.{length, set}
 use Rattle.soundram.specs.declared.ByteAddress.{ByteAddress}
 use Rattle.soundram.specs.declared.Reader.{Reader}
-use Rattle.soundram.specs.Address.{forwardOf, halfwordOf, Sized}
-use Rattle.soundram.specs.Program.{Prog, Mem, Does, get, put, repeat}
+use Rattle.soundram.specs.Address.{forwardOf, halfwordOf}
+use Rattle.soundram.specs.Program.{Mem, Does, get, put}
 use Rattle.soundram.specs.TwoRuns.{Safe}
-use Rattle.soundram.proofs.Addresses.{forward-multiple, forward-below}
-use Rattle.soundram.proofs.Programs.{Always, ends, always-any, always-bind, always-repeat, does-give, does-bind, repeat-end}
+use Rattle.soundram.proofs.Programs.{Always, ends, always-any, always-bind, always-repeat, does-give, does-bind}
 use Rattle.soundram.proofs.TwoRuns.{safe-done, safe-bind, safe-get, safe-put, safe-repeat}
 use Rattle.transfer.specs.Transfer.{putOne, putAt, inwardOf, Outward, getAt, outwardOf}
 

@@ -1,5 +1,5 @@
-use Rattle.reverb.proofs.Turns.{address-after, address-before}
 use borrow.Author.Needs.{needs}
+use Rattle.reverb.proofs.Turns.{address-after, address-before}
 use Rattle.reverb.proofs.address.Statement.{statement}
 use Rattle.reverb.proofs.address.Tie as tie
 

@@ -1,10 +1,10 @@
 use mathlib.Core.Path.{_≡_}
+use borrow.Author.Needs.{needs}
 use mir.Syntax.{w16, w32}
 use mir.Val.{toZ, ofZ}
 use Rattle.fixed.proofs.Number.{ok, is, passed-in}
 use Rattle.soundram.proofs.Programs.{lent-after}
 use Rattle.reverb.proofs.Turns.{all-pass-does}
-use borrow.Author.Needs.{needs}
 use Rattle.reverb.proofs.all_pass.Statement.{statement}
 use Rattle.reverb.proofs.all_pass.Tie as tie
 

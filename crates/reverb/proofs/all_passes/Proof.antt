@@ -1,7 +1,7 @@
 use native.Mathlib.Omega.{arith}
+use borrow.Author.Needs.{needs}
 use Rattle.soundram.proofs.Programs.{lent-after}
 use Rattle.reverb.proofs.Turns.{passes-does}
-use borrow.Author.Needs.{needs}
 use Rattle.reverb.proofs.all_passes.Statement.{statement}
 use Rattle.reverb.proofs.all_passes.Tie as tie
 

@@ -1,5 +1,5 @@
-use Rattle.reverb.specs.Reverb.{bytesAt}
 use borrow.Author.Needs.{needs}
+use Rattle.reverb.specs.Reverb.{bytesAt}
 use Rattle.reverb.proofs.bytes.Statement.{statement}
 use Rattle.reverb.proofs.bytes.Tie as tie
 

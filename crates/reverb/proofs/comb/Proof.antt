@@ -1,5 +1,5 @@
-use Rattle.reverb.proofs.Turns.{comb-does}
 use borrow.Author.Needs.{needs}
+use Rattle.reverb.proofs.Turns.{comb-does}
 use Rattle.reverb.proofs.comb.Statement.{statement}
 use Rattle.reverb.proofs.comb.Tie as tie
 

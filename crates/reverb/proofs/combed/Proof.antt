@@ -1,8 +1,8 @@
-use mir.Syntax.{w16, w32}
+use borrow.Author.Needs.{needs}
+use mir.Syntax.{w32}
 use Rattle.fixed.proofs.Number.{Num, need, is, range, hold, add, wide}
 use Rattle.reverb.specs.Reverb.{combedOf}
 use Rattle.reverb.proofs.Turns.{scaled}
-use borrow.Author.Needs.{needs}
 use Rattle.reverb.proofs.combed.Statement.{statement}
 use Rattle.reverb.proofs.combed.Tie as tie
 

@@ -1,7 +1,7 @@
-use mir.Syntax.{w16, w32}
+use borrow.Author.Needs.{needs}
+use mir.Syntax.{w32}
 use Rattle.fixed.proofs.Number.{ok, is, passed-in}
 use Rattle.reverb.proofs.Turns.{combs-does}
-use borrow.Author.Needs.{needs}
 use Rattle.reverb.proofs.combs.Statement.{statement}
 use Rattle.reverb.proofs.combs.Tie as tie
 

@@ -1,7 +1,7 @@
-use mir.Syntax.{w16, w32}
+use borrow.Author.Needs.{needs}
+use mir.Syntax.{w32}
 use Rattle.fixed.proofs.Number.{Num, arg, need, is, range, hold, add, wide}
 use Rattle.reverb.proofs.Turns.{scaled}
-use borrow.Author.Needs.{needs}
 use Rattle.reverb.proofs.fed.Statement.{statement}
 use Rattle.reverb.proofs.fed.Tie as tie
 

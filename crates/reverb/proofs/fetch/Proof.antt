@@ -1,6 +1,6 @@
+use borrow.Author.Needs.{needs}
 use mir.Facts.{toZ-ofZ}
 use Rattle.reverb.proofs.Turns.{fetch-does}
-use borrow.Author.Needs.{needs}
 use Rattle.reverb.proofs.fetch.Statement.{statement}
 use Rattle.reverb.proofs.fetch.Tie as tie
 

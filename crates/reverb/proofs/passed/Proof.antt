@@ -1,9 +1,9 @@
 use mathlib.Core.Path.{ap, _∙_}
+use borrow.Author.Needs.{needs}
 use mir.Syntax.{w16, w32}
 use Rattle.fixed.specs.Arithmetic.{saturated}
 use Rattle.fixed.proofs.Number.{Num, arg-in, passed, need, is, hold, sub}
 use Rattle.reverb.proofs.Turns.{scaled}
-use borrow.Author.Needs.{needs}
 use Rattle.reverb.proofs.passed.Statement.{statement}
 use Rattle.reverb.proofs.passed.Tie as tie
 

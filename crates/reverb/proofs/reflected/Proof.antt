@@ -1,10 +1,10 @@
 use mathlib.Core.Path.{ap, _∙_}
+use borrow.Author.Needs.{needs}
 use mir.Syntax.{w16, w32}
 use Rattle.fixed.specs.Arithmetic.{saturated}
 use Rattle.fixed.proofs.Number.{Num, arg, arg-in, passed, need, is, range, hold, add, sub, wide}
 use Rattle.reverb.specs.Reverb.{reflectedOf}
 use Rattle.reverb.proofs.Turns.{scaled, scaled-sum}
-use borrow.Author.Needs.{needs}
 use Rattle.reverb.proofs.reflected.Statement.{statement}
 use Rattle.reverb.proofs.reflected.Tie as tie
 

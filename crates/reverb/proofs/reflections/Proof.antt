@@ -1,10 +1,10 @@
 use native.Mathlib.Omega.{arith}
-use mir.Syntax.{w16, w32}
+use borrow.Author.Needs.{needs}
+use mir.Syntax.{w32}
 use mir.Facts.{toZ-ofZ}
 use Rattle.fixed.proofs.Number.{ok, is, passed-in}
 use Rattle.soundram.proofs.Programs.{lent-after}
 use Rattle.reverb.proofs.Turns.{reflections-does}
-use borrow.Author.Needs.{needs}
 use Rattle.reverb.proofs.reflections.Statement.{statement}
 use Rattle.reverb.proofs.reflections.Tie as tie
 

@@ -1,6 +1,6 @@
-use mir.Syntax.{w16, w32}
-use Rattle.fixed.proofs.Number.{Num, arg-in, ok, said, prod, is, range, wide}
 use borrow.Author.Needs.{needs}
+use mir.Syntax.{w16}
+use Rattle.fixed.proofs.Number.{Num, arg-in, ok, said, prod, is, range, wide}
 use Rattle.reverb.proofs.scaled.Statement.{statement}
 use Rattle.reverb.proofs.scaled.Tie as tie
 

@@ -1,6 +1,6 @@
+use borrow.Author.Needs.{needs}
 use mir.Syntax.{w16, w32}
 use Rattle.fixed.proofs.Number.{Num, arg, ok, said, prod, hold, need, is, range, wide}
-use borrow.Author.Needs.{needs}
 use Rattle.reverb.proofs.scaled_sample.Statement.{statement}
 use Rattle.reverb.proofs.scaled_sample.Tie as tie
 

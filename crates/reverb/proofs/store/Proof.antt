@@ -1,6 +1,6 @@
+use borrow.Author.Needs.{needs}
 use mir.Facts.{toZ-ofZ}
 use Rattle.reverb.proofs.Turns.{store-does, store-not}
-use borrow.Author.Needs.{needs}
 use Rattle.reverb.proofs.store.Statement.{statement}
 use Rattle.reverb.proofs.store.Tie as tie
 

@@ -1,9 +1,9 @@
+use borrow.Author.Needs.{needs}
 use mir.Syntax.{w16, w32}
 use mir.Facts.{toZ-ofZ}
 use Rattle.fixed.proofs.Number.{ok, is, passed-in}
 use Rattle.soundram.proofs.Programs.{lent-after}
 use Rattle.reverb.proofs.Turns.{turn-does}
-use borrow.Author.Needs.{needs}
 use Rattle.reverb.proofs.turn.Statement.{statement}
 use Rattle.reverb.proofs.turn.Tie as tie
 

@@ -1,9 +1,9 @@
 use mathlib.Core.Path.{ap, _∙_}
+use borrow.Author.Needs.{needs}
 use mir.Syntax.{w16}
 use Rattle.fixed.specs.Signed.{signed}
 use Rattle.fixed.proofs.Number.{passed}
 use Rattle.reverb.specs.Reverb.{volumeAt}
-use borrow.Author.Needs.{needs}
 use Rattle.reverb.proofs.volume.Statement.{statement}
 use Rattle.reverb.proofs.volume.Tie as tie
 

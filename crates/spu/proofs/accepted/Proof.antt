@@ -1,5 +1,3 @@
-use mathlib.Core.Path.{ap}
-use Rattle.chip.specs.declared.State.{State}
 use borrow.Author.Needs.{needs}
 use Rattle.spu.proofs.accepted.Statement.{statement}
 use Rattle.spu.proofs.accepted.Tie as tie

@@ -1,5 +1,5 @@
-use Rattle.spu.proofs.Lent.{view-inside, view-none, view-some}
 use borrow.Author.Needs.{needs}
+use Rattle.spu.proofs.Lent.{view-inside, view-none, view-some}
 use Rattle.spu.proofs.block_view.Statement.{statement}
 use Rattle.spu.proofs.block_view.Tie as tie
 

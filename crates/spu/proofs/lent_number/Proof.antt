@@ -1,5 +1,5 @@
-use Rattle.spu.proofs.Numbers.{lent-1, lent-2, lent-0}
 use borrow.Author.Needs.{needs}
+use Rattle.spu.proofs.Numbers.{lent-1, lent-2, lent-0}
 use Rattle.spu.proofs.lent_number.Statement.{statement}
 use Rattle.spu.proofs.lent_number.Tie as tie
 

@@ -1,10 +1,10 @@
 use mathlib.Core.Path.{_≡_}
+use borrow.Author.Needs.{needs}
 use mir.Val.{toZ, ofZ}
-use mir.Syntax.{w16, w32}
+use mir.Syntax.{w16}
 use mir.Facts.{toZ-ofZ}
 use Rattle.chip.proofs.Tests.{ok-voices, ok-capture, ok-place}
 use Rattle.spu.proofs.Lent.{lent-ok, lent-some, lent-all, tick-no, tick-yes}
-use borrow.Author.Needs.{needs}
 use Rattle.spu.proofs.tick.Statement.{statement}
 use Rattle.spu.proofs.tick.Tie as tie
 

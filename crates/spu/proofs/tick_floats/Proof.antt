@@ -1,9 +1,9 @@
 use mathlib.Core.Path.{_≡_}
+use borrow.Author.Needs.{needs}
 use mir.Val.{toZ, ofZ}
-use mir.Syntax.{w16, w32}
+use mir.Syntax.{w16}
 use mir.Facts.{toZ-ofZ}
 use Rattle.spu.proofs.Lent.{floats-as}
-use borrow.Author.Needs.{needs}
 use Rattle.spu.proofs.tick_floats.Statement.{statement}
 use Rattle.spu.proofs.tick_floats.Tie as tie
 

@@ -1,5 +1,5 @@
-use Rattle.spu.proofs.Numbers.{lent-refused, lent-passed, move-6, move-7, move-0}
 use borrow.Author.Needs.{needs}
+use Rattle.spu.proofs.Numbers.{lent-refused, lent-passed, move-6, move-7, move-0}
 use Rattle.spu.proofs.transfer_number.Statement.{statement}
 use Rattle.spu.proofs.transfer_number.Tie as tie
 

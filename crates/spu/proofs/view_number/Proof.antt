@@ -1,5 +1,5 @@
-use Rattle.spu.proofs.Numbers.{view-1, view-2, view-8, view-0, view-sized}
 use borrow.Author.Needs.{needs}
+use Rattle.spu.proofs.Numbers.{view-1, view-2, view-8, view-0, view-sized}
 use Rattle.spu.proofs.view_number.Statement.{statement}
 use Rattle.spu.proofs.view_number.Tie as tie
 

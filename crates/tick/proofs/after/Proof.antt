@@ -1,6 +1,6 @@
+use borrow.Author.Needs.{needs}
 use mir.Facts.{toZ-ofZ}
 use Rattle.tick.proofs.Parts.{after-as}
-use borrow.Author.Needs.{needs}
 use Rattle.tick.proofs.after.Statement.{statement}
 use Rattle.tick.proofs.after.Tie as tie
 

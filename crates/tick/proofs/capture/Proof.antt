@@ -1,11 +1,11 @@
-use native.Mathlib.Omega.{arith}
 use mathlib.Core.Path.{_≡_}
+use native.Mathlib.Omega.{arith}
+use borrow.Author.Needs.{needs}
 use mir.Val.{toZ, ofZ}
-use mir.Syntax.{w16, w32}
+use mir.Syntax.{w16}
 use mir.Facts.{toZ-ofZ}
 use Rattle.soundram.proofs.Programs.{lent-after}
 use Rattle.tick.proofs.Parts.{capture-does}
-use borrow.Author.Needs.{needs}
 use Rattle.tick.proofs.capture.Statement.{statement}
 use Rattle.tick.proofs.capture.Tie as tie
 

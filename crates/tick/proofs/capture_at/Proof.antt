@@ -1,6 +1,6 @@
+use borrow.Author.Needs.{needs}
 use mir.Facts.{toZ-ofZ}
 use Rattle.tick.proofs.Parts.{capture-as}
-use borrow.Author.Needs.{needs}
 use Rattle.tick.proofs.capture_at.Statement.{statement}
 use Rattle.tick.proofs.capture_at.Tie as tie
 

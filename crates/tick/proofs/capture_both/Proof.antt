@@ -1,8 +1,8 @@
 use native.Mathlib.Omega.{arith}
+use borrow.Author.Needs.{needs}
 use mir.Facts.{toZ-ofZ}
 use Rattle.soundram.proofs.Programs.{lent-after}
 use Rattle.tick.proofs.Parts.{both-does}
-use borrow.Author.Needs.{needs}
 use Rattle.tick.proofs.capture_both.Statement.{statement}
 use Rattle.tick.proofs.capture_both.Tie as tie
 

@@ -1,10 +1,10 @@
 use mathlib.Core.Path.{ap, _∙_}
+use borrow.Author.Needs.{needs}
 use lib.IntN.{pos}
 use mir.Syntax.{w16, w32}
 use Rattle.fixed.specs.Signed.{signed}
 use Rattle.fixed.proofs.Number.{Num, arg, lit, ok, said, prod, hold, need, is, range, wide}
 use Rattle.tick.proofs.Parts.{cd-on, cd-off}
-use borrow.Author.Needs.{needs}
 use Rattle.tick.proofs.cd.Statement.{statement}
 use Rattle.tick.proofs.cd.Tie as tie
 

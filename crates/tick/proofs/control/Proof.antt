@@ -1,6 +1,6 @@
 use mathlib.Core.Path.{ap}
-use Rattle.fixed.specs.Bits.{bit}
 use borrow.Author.Needs.{needs}
+use Rattle.fixed.specs.Bits.{bit}
 use Rattle.tick.proofs.control.Statement.{statement}
 use Rattle.tick.proofs.control.Tie as tie
 

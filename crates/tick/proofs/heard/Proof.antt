@@ -1,12 +1,12 @@
 use mathlib.Core.Path.{ap, _∙_}
-use Rattle.fixed.specs.Arithmetic.{saturated}
+use borrow.Author.Needs.{needs}
 use lib.IntN.{pos}
 use mir.Syntax.{w16, w32}
 use mir.Facts.{toZ-ofZ}
+use Rattle.fixed.specs.Arithmetic.{saturated}
 use Rattle.fixed.proofs.Saturation.{saturated-in}
 use Rattle.fixed.proofs.Number.{Num, arg, lit, res, need, is, range, hold, add, wide}
 use Rattle.tick.proofs.Parts.{heard-on, heard-off}
-use borrow.Author.Needs.{needs}
 use Rattle.tick.proofs.heard.Statement.{statement}
 use Rattle.tick.proofs.heard.Tie as tie
 

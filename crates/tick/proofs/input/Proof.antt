@@ -1,10 +1,10 @@
 use mathlib.Core.Path.{ap, _∙_}
+use borrow.Author.Needs.{needs}
 use mir.Syntax.{w16, w32}
 use mir.Facts.{toZ-ofZ}
 use Rattle.fixed.specs.Arithmetic.{saturated}
 use Rattle.fixed.proofs.Number.{Num, arg-in, passed, need, is, hold, add}
 use Rattle.tick.proofs.Parts.{input-with, input-without}
-use borrow.Author.Needs.{needs}
 use Rattle.tick.proofs.input.Statement.{statement}
 use Rattle.tick.proofs.input.Tie as tie
 

@@ -1,11 +1,11 @@
-use mathlib.Core.Path.{ap, _∙_, refl}
+use mathlib.Core.Path.{ap, _∙_}
+use borrow.Author.Needs.{needs}
 use mir.Syntax.{w16, w32}
 use mir.Facts.{toZ-ofZ}
-use Rattle.fixed.specs.Arithmetic.{saturated, productOf, volumeOf}
+use Rattle.fixed.specs.Arithmetic.{saturated, volumeOf}
 use Rattle.fixed.proofs.Saturation.{saturated-in}
 use Rattle.fixed.proofs.Number.{Num, arg-in, res, res-in, ok, said, passed, prod, need, is, range, hold, add, wide}
 use Rattle.tick.proofs.Parts.{mix-as}
-use borrow.Author.Needs.{needs}
 use Rattle.tick.proofs.mix.Statement.{statement}
 use Rattle.tick.proofs.mix.Tie as tie
 

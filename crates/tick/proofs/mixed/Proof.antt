@@ -1,10 +1,10 @@
 use mathlib.Core.Path.{_≡_}
+use borrow.Author.Needs.{needs}
 use mir.Val.{toZ, ofZ}
 use mir.Syntax.{w16, w32}
 use mir.Facts.{toZ-ofZ}
 use Rattle.fixed.proofs.Number.{passed}
 use Rattle.tick.proofs.Parts.{side-as, pair-as}
-use borrow.Author.Needs.{needs}
 use Rattle.tick.proofs.mixed.Statement.{statement}
 use Rattle.tick.proofs.mixed.Tie as tie
 

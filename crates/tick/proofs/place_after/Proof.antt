@@ -1,5 +1,5 @@
-use Rattle.tick.proofs.Parts.{place-stays, place-wraps, place-moves}
 use borrow.Author.Needs.{needs}
+use Rattle.tick.proofs.Parts.{place-stays, place-wraps, place-moves}
 use Rattle.tick.proofs.place_after.Statement.{statement}
 use Rattle.tick.proofs.place_after.Tie as tie
 

@@ -1,11 +1,11 @@
 use native.Mathlib.Omega.{arith}
+use borrow.Author.Needs.{needs}
 use mir.Facts.{toZ-ofZ}
 use Rattle.soundram.proofs.Programs.{lent-after}
+use Rattle.voices.proofs.tick.Reads as tick-reads′
 use Rattle.tick.proofs.Parts.{tick-does}
-use borrow.Author.Needs.{needs}
 use Rattle.tick.proofs.run.Statement.{statement}
 use Rattle.tick.proofs.run.Tie as tie
-use Rattle.voices.proofs.tick.Reads as tick-reads′
 
 at-requires : tie.Need-at-requires
 at-requires c κs = search needs

@@ -1,12 +1,11 @@
+use mathlib.Core.Path.{_≡_}
 use native.Mathlib.Omega.{arith}
-use mathlib.Core.Path.{_≡_, ap, _∙_}
+use borrow.Author.Needs.{needs}
 use mir.Val.{toZ, ofZ}
-use mir.Syntax.{w16, w32}
+use mir.Syntax.{w16}
 use mir.Facts.{toZ-ofZ}
-use Rattle.soundram.specs.Address.{addressOf}
 use Rattle.fixed.proofs.Number.{ok, is}
 use Rattle.tick.proofs.Parts.{area-in, turn-does}
-use borrow.Author.Needs.{needs}
 use Rattle.tick.proofs.turn.Statement.{statement}
 use Rattle.tick.proofs.turn.Tie as tie
 

@@ -1,5 +1,5 @@
-use Rattle.tick.proofs.Parts.{turning-as}
 use borrow.Author.Needs.{needs}
+use Rattle.tick.proofs.Parts.{turning-as}
 use Rattle.tick.proofs.turning.Statement.{statement}
 use Rattle.tick.proofs.turning.Tie as tie
 

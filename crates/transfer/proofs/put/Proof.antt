@@ -1,6 +1,6 @@
+use borrow.Author.Needs.{needs}
 use Rattle.soundram.proofs.Addresses.{forward-below}
 use Rattle.transfer.proofs.Moves.{put-does}
-use borrow.Author.Needs.{needs}
 use Rattle.transfer.proofs.put.Statement.{statement}
 use Rattle.transfer.proofs.put.Tie as tie
 
