@@ -1,4 +1,3 @@
-pub mod Writes
 pub mod Tests
 pub mod Ranges
 pub mod Parts

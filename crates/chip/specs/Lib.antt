@@ -1,3 +1,2 @@
 pub mod State
-pub mod Registers
 pub mod Range

@@ -1,8 +1,9 @@
-// The registers as last written: 256 halfwords, the one at an offset from 1F801C00h.
+// The registers as last written: 256 halfwords, the one at an offset from 1F801C00h; and which offsets and values calls take.
 ghost use mathlib.Core.Path.{_≡_};
 ghost use Prim.Native.Nat.{_<_};
 ghost use Rattle.fixed.specs.Bits.{bit};
 ghost use Rattle.registers.specs.Map.{registerAt, ofVoice, flagOf, Flags};
+ghost use Rattle.registers.specs.Offsets.{listed as listedAt, readOnly, notWritten};
 
 pub fn at(regs: &[u16; 256], offset: usize) -> u16
     requires { ⌜ offset < 512 ⌝ }
@@ -43,4 +44,33 @@ pub fn has(flags: u32, n: usize) -> bool
     ensures { λ r. ⌜ r ≡ bit n flags ⌝ }
 {
     (flags >> n) % 2 == 1
+}
+
+// Which offsets there are, which can only be read, and which values cannot be written.
+
+pub fn listed(offset: u32) -> bool
+    ensures { λ r. ⌜ r ≡ listedAt offset ⌝ }
+{
+    (offset % 2 == 0)
+        & ((offset <= 0x19E)
+            | (((0x1A2 <= offset) & (offset <= 0x1AE))
+                | (((0x1B0 <= offset) & (offset <= 0x1BA))
+                    | ((0x1C0 <= offset) & (offset <= 0x1FE)))))
+}
+
+pub fn read_only(offset: u32) -> bool
+    ensures { λ r. ⌜ r ≡ readOnly offset ⌝ }
+{
+    (offset == 0x19C)
+        | ((offset == 0x19E) | ((offset == 0x1AE) | ((offset == 0x1B8) | (offset == 0x1BA))))
+}
+
+pub fn not_written(offset: u32, value: u16) -> bool
+    ensures { λ r. ⌜ r ≡ notWritten offset value ⌝ }
+{
+    let of_voice = offset < 0x180;
+    let volume = (of_voice & (offset % 16 < 4)) | ((offset == 0x180) | (offset == 0x182));
+    (volume & (value / 0x8000 % 2 == 1))
+        | ((of_voice & (offset % 16 == 0xC))
+            | ((offset == 0x1A8) | ((offset == 0x1AC) & !(value / 2 % 8 == 2))))
 }

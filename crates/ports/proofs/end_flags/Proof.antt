@@ -1,0 +1,65 @@
+use mathlib.Core.Path.{_≡_}
+use Prim.Native.Nat.{_-_, _≤_}
+use native.Mathlib.Omega.{arith}
+use borrow.Author.Needs.{needs}
+use Rattle.chip.proofs.Parts.{to-end}
+use Rattle.ports.specs.Registers.{endFlags}
+use Rattle.ports.proofs.Parts.{flags-none, flags-more, flags-fit}
+use Rattle.ports.proofs.end_flags.Statement.{statement}
+use Rattle.ports.proofs.end_flags.Tie as tie
+
+abbrev Inv-loop : tie.InvT-loop
+Inv-loop first count voices flags₀ k₀ flags k = (k ≤ count) × (flags ≡ endFlags voices first k)
+
+abbrev μ-loop : tie.MeasureT-loop
+μ-loop first count voices flags₀ k₀ flags k = count - k
+
+loop-holds : tie.Need-loop-holds Inv-loop μ-loop
+loop-holds c = (omega arith, flags-none _ _)
+
+add-v : tie.Need-add-v Inv-loop μ-loop
+add-v c = search needs
+
+mul-v : tie.Need-mul-v Inv-loop μ-loop
+mul-v c = search needs
+
+array-copy-out-v : tie.Need-array-copy-out-v Inv-loop μ-loop
+array-copy-out-v c = search needs
+
+end-flag-requires : tie.Need-end-flag-requires Inv-loop μ-loop
+end-flag-requires c κs = search needs
+
+add-flags : tie.Need-add-flags Inv-loop μ-loop
+add-flags c =
+    let h = c .before .before .loop-test .taken in
+    let f = flags-fit _ _ _ (c .before .before .before .loop .inv .1) (c .end-flag .ensures) (omega arith) in
+    search (f, needs)
+
+add-k : tie.Need-add-k Inv-loop μ-loop
+add-k c = search needs
+
+loop-less : tie.Need-loop-less Inv-loop μ-loop
+loop-less c = search needs
+
+loop-again : tie.Need-loop-again Inv-loop μ-loop
+loop-again c = (search needs, flags-more _ _ _ (c .before .before .before .loop .inv .1) (c .end-flag .ensures))
+
+returns : tie.Need-returns Inv-loop μ-loop
+returns c = let v = c .before .loop .inv in to-end (endFlags _ _) _ _ (v .1) (v .0) (c .loop-test .left)
+
+pub end-flags-spec : {M : Type 1} → statement M
+end-flags-spec =
+    tie.close
+    (tie.spec
+    Inv-loop
+    μ-loop
+    loop-holds
+    add-v
+    mul-v
+    array-copy-out-v
+    end-flag-requires
+    add-flags
+    add-k
+    loop-less
+    loop-again
+    returns)

@@ -1,0 +1,37 @@
+-- Which offsets there are, which can only be read, and which values cannot be written. Assumes nothing.
+use mathlib.Core.Bool.{Bool, _&&_, _||_, not}
+use Prim.Native.Nat.{ℕ, _%_}
+use lib.Dec.{eqb, leb, ltb}
+use Rattle.fixed.specs.Bits.{bit, field}
+
+abbrev pub between : ℕ → ℕ → ℕ → Bool
+between low high x = leb low x && leb x high
+
+-- a voice's register
+abbrev pub isVoice : ℕ → Bool
+isVoice offset = ltb offset 0x180
+
+-- "Listed offsets": voices, 180h..19Eh, 1A2h..1AEh, 1B0h..1BAh, 1C0h..1FEh; even
+unfoldable pub listed : ℕ → Bool
+listed offset =
+    eqb (offset % 2) 0 && (leb offset 0x19E || (between 0x1A2 0x1AE offset || (between 0x1B0 0x1BA offset || between 0x1C0 0x1FE offset)))
+
+-- "write to 19Ch, 19Eh, 1AEh, 1B8h, 1BAh"
+unfoldable pub readOnly : ℕ → Bool
+readOnly offset = eqb offset 0x19C || (eqb offset 0x19E || (eqb offset 0x1AE || (eqb offset 0x1B8 || eqb offset 0x1BA)))
+
+-- "volume with bit 15 set; +Ch of a voice or 1A8h written; .. 1ACh with bits 3-1 other than 2". "Only main volume (180h, 182h) and voice volumes
+-- are limited by bit 15."
+abbrev pub isVolume : ℕ → Bool
+isVolume offset = (isVoice offset && ltb (offset % 16) 4) || (eqb offset 0x180 || eqb offset 0x182)
+
+abbrev pub isLevel : ℕ → Bool
+isLevel offset = isVoice offset && eqb (offset % 16) 0xC
+
+unfoldable pub notWritten : ℕ → ℕ → Bool
+notWritten offset value =
+    (isVolume offset && bit 15 value) || (isLevel offset || (eqb offset 0x1A8 || (eqb offset 0x1AC && not (eqb (field 1 3 value) 2))))
+
+-- "1A8h read"
+abbrev pub notRead : ℕ → Bool
+notRead offset = eqb offset 0x1A8
