@@ -128,20 +128,44 @@ fn start(s: State, base: u16) -> State {
     set(k, 0x18A, 0x00FF)
 }
 
-// The sum of what is heard in so many ticks.
-fn play(s: State, ram: &mut [u8], marks: &mut [u8], ticks: u32) -> u32 {
+// The sum of a buffer's samples.
+fn heard(out: &[i16]) -> u32 {
+    let mut sum = 0u32;
+    for i in 0..out.len() {
+        sum = std::num::wrapping_add_u32(sum, fixed::to_bits(out[i]) as u32);
+    }
+    sum
+}
+
+// The sum of what is heard in so many runs of 100 ticks.
+fn play(s: State, ram: &mut [u8], marks: &mut [u8], count: u32) -> u32 {
+    let cd = [0x1234i16; 200];
     let mut t = s;
-    let mut heard = 0u32;
-    for _ in 0..ticks {
-        let r = spu::tick(t, ram, marks, 0x1234, -0x1234);
+    let mut out = [0i16; 200];
+    let mut sum = 0u32;
+    for _ in 0..count {
+        let r = host::run(t, ram, marks, &cd, &mut out);
         let next = r.state;
         t = next;
-        heard = std::num::wrapping_add_u32(
-            heard,
+        sum = std::num::wrapping_add_u32(sum, heard(&out));
+    }
+    sum
+}
+
+// The same in so many ticks, one at a time.
+fn play_ticks(s: State, ram: &mut [u8], marks: &mut [u8], ticks: u32) -> u32 {
+    let mut t = s;
+    let mut sum = 0u32;
+    for _ in 0..ticks {
+        let r = spu::tick(t, ram, marks, 0x1234, 0x1234);
+        let next = r.state;
+        t = next;
+        sum = std::num::wrapping_add_u32(
+            sum,
             fixed::to_bits(r.left) as u32 + fixed::to_bits(r.right) as u32,
         );
     }
-    heard
+    sum
 }
 
 #[no_mangle]
@@ -150,10 +174,14 @@ pub extern "C" fn tenonwhisk_scene(
     marks: &mut [u8],
     size: u32,
     base: u16,
-    ticks: u32,
+    count: u32,
+    single: bool,
 ) -> u32 {
     prepare(ram, marks);
     let m = spu::make(size);
     let s = start(hall(voices(m.state)), base);
-    play(s, ram, marks, ticks)
+    if single {
+        return play_ticks(s, ram, marks, count);
+    }
+    play(s, ram, marks, count)
 }

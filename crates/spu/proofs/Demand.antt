@@ -12,7 +12,7 @@ use Rattle.soundram.proofs.TwoRuns.{safe-done, safe-bind}
 use Rattle.soundram.proofs.Calls as calls
 use Rattle.chip.specs.declared.State.{State}
 use Rattle.chip.specs.State.{freshOf, watchOf, watchedOf}
-use Rattle.chip.proofs.Writes.{of-both, write-doubt}
+use Rattle.ports.proofs.Writes.{of-both, write-doubt}
 use Rattle.spu.specs.Step.{Call, write, read, transferIn, transferOut, tick, tickFloats, reset, view, Answer, numberOf, acceptedOf, stepOf, chip}
 use Rattle.transfer.proofs.Moves.{safe-inward, safe-outward}
 use Rattle.tick.proofs.Safe.{safe-tick}

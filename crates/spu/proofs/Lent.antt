@@ -1,5 +1,5 @@
 -- Calls that are lent RAM and marks, from the numbers that they give and what they do. Assumes nothing.
-use mathlib.Core.Path.{_≡_, refl, sym, ap, subst, _∙_}
+use mathlib.Core.Path.{_≡_, refl, sym, ap, _∙_}
 use mathlib.Core.Bool.{Bool, true, false, cond, _||_, _&&_, not}
 use mathlib.Core.List.{List, [], _∷_}
 use Prim.Native.Nat.{ℕ, min, _+_, _-_, _/_, _%_, _≤_, _<_}
@@ -7,7 +7,8 @@ use native.Mathlib.Nat.{min-eq-left}
 use native.Mathlib.Omega.{arith}
 use borrow.Author.Tests.{eqb-true, ltb-false, not-false, ne-eqb}
 use lib.Dec.{eqb, ltb}
-use lib.ListN.{length, take, drop, length-take, length-drop}
+use lib.ListN.{length, getD, set, take, drop, length-set, length-take, length-drop}
+use lib.Seq.{getD-set-same, getD-set-other}
 use lib.IntN.{ℤ, pos}
 use mir.Syntax.{w32}
 use mir.Val.{Fits}
@@ -25,19 +26,13 @@ use Rattle.chip.proofs.Tests.{ok-sized}
 use Rattle.transfer.specs.Transfer.{inwardOf, outwardOf}
 use Rattle.tick.specs.declared.Pair.{Pair}
 use Rattle.tick.specs.Tick.{tickOf}
+use Rattle.runs.specs.Run.{Run, tickedBy, ranOf}
+use Rattle.runs.proofs.Runs.{or-first, or-rest}
 use Rattle.spu.specs.declared.Transferred.{Transferred}
 use Rattle.spu.specs.Step.{Call, transferIn, transferOut, tick, tickFloats, view, Answer, written, value, moved, movedOut, pair, floats, made, viewed, Test, test, firstOf, notInward, notOutward, lentTests, moveTests, numberOf, refusedOf, acceptedOf, stepOf, chip, outcomeOf, Leaves, viewOf}
 use Rattle.spu.proofs.Range.{passed-first, passed-rest}
 
 -- ---- what an accepted call may rely on
-
-or-first : (a b : Bool) → (a || b) ≡ false → a ≡ false
-or-first false b e = refl
-or-first true b e = e
-
-or-rest : (a b : Bool) → (a || b) ≡ false → b ≡ false
-or-rest false b e = e
-or-rest true b e = absurd (subst (λ (c : Bool). cond c (Unit {0}) ⊥) e tt)
 
 module _ (s : State) (ts : List Test) {n : ℕ} where
   pub lent-ok : (ram marks : ℕ) → n ≡ firstOf (lentTests s ram marks ts) → n ≡ 0 → stateOk s ≡ true
@@ -81,7 +76,7 @@ module _ (c : Call) (s : State) (r m : List ℕ) {n : ℕ} (e : n ≡ numberOf c
   leaves-refused z = leaves-of c s r m (outcome chip (still (refusedOf c n) s) s r m) (rw (← e, ne-eqb n 0 z))
 
   -- p is what the call does, w the watch after it
-  leaves-works : {p : Prog (Reply Answer State)} {a : Answer} {t : State} {w : Watch} {r′ m′ : List ℕ} → n ≡ 0 → acceptedOf c s ≡ works p
+  pub leaves-works : {p : Prog (Reply Answer State)} {a : Answer} {t : State} {w : Watch} {r′ m′ : List ℕ} → n ≡ 0 → acceptedOf c s ≡ works p
       → Does p (memOf r m (watchOf s)) (record { answer = a; state = t }) (memOf r′ m′ w)
       → Leaves c s r m a (w .latch && not (watchOf s .latch)) (w .doubt && not (watchOf s .doubt)) (watchedOf t w) r′ m′
   unfolding outcomeOf stepOf outcome
@@ -102,17 +97,48 @@ module _ (c : Call) (s : State) (r m : List ℕ) {n : ℕ} (e : n ≡ numberOf c
 
 -- ---- a tick
 
+-- the only tick of a run reported, or none did
+first : (b : Bool) → eqb (cond b 0 1) 0 ≡ b
+first true = refl
+first false = refl
+
+at-0 : (o : List ℤ) (x y : ℤ) → length o ≡ 2 → getD (set (set o 0 x) 1 y) 0 (pos 0) ≡ x
+at-0 o x y l = getD-set-other (set o 0 x) 1 0 y (pos 0) (λ e. omega arith) ∙ getD-set-same o 0 x (pos 0) (omega arith)
+
+at-1 : (o : List ℤ) (x y : ℤ) → length o ≡ 2 → getD (set (set o 0 x) 1 y) 1 (pos 0) ≡ y
+at-1 o x y l = let h = length-set o 0 x in getD-set-same (set o 0 x) 1 y (pos 0) (omega arith)
+
 module _ (s : State) (left right : ℤ) (r m : List ℕ) {n : ℕ} (e : n ≡ firstOf (lentTests s (length r) (length m) [])) where
   pub tick-no : (n ≡ 0 → ⊥) → Leaves (tick left right) s r m (pair n (record { left = pos 0; right = pos 0 })) false false s r m
   unfolding numberOf refusedOf
   tick-no z = leaves-refused (tick left right) s r m e z
 
-  pub tick-yes : {p : Pair} {t u : State} {v w : Watch} {r′ m′ : List ℕ} {l k a b : ℤ} → n ≡ 0 → v ≡ watchOf s → l ≡ left → k ≡ right
-      → Does (tickOf s l k) (memOf r m v) (record { answer = p; state = t }) (memOf r′ m′ w) → u ≡ watchedOf t w → a ≡ p .left → b ≡ p .right
-      → Leaves (tick left right) s r m (pair n (record { left = a; right = b })) (w .latch && not (v .latch)) (w .doubt && not (v .doubt)) u r′ m′
-  unfolding numberOf acceptedOf
-  tick-yes {p} z ev el ek d eu ea eb =
-      rw (z, ea, eb, eu, ev) (leaves-works (tick left right) s r m e z refl (does-bind _ (rw (ev, el, ek) at d) (does-done _ _)))
+  -- of a run of one tick; a, b are what stands in its buffer
+  pub tick-yes : (cd o : List ℤ) {o′ : List ℤ} {t : State} {i d : ℕ} {r′ m′ : List ℕ} {a b : ℤ} → n ≡ 0
+      → record { state = t; ram = r′; marks = m′; out = o′; irq = i; doubt = d } ≡ ranOf cd 1 (record { state = s; ram = r; marks = m; out = o; irq = 1; doubt = 1 })
+      → getD cd 0 (pos 0) ≡ left → getD cd 1 (pos 0) ≡ right → length o ≡ 2 → a ≡ getD o′ 0 (pos 0) → b ≡ getD o′ 1 (pos 0)
+      → Leaves (tick left right) s r m (pair n (record { left = a; right = b })) (eqb i 0) (eqb d 0) t r′ m′
+  unfolding numberOf acceptedOf ranOf tickedBy
+  tick-yes cd o z q el er len ea eb =
+      let x = run (tickOf s left right) (memOf r m (watchOf s)) in
+      let p = x .answer .answer in
+      let w = rw (el, er) at q in
+      rw (
+        z,
+        ea,
+        eb,
+        ap (λ (f : Run). f .state) w,
+        ap (λ (f : Run). f .ram) w,
+        ap (λ (f : Run). f .marks) w,
+        ap (λ (f : Run). getD (f .out) 0 (pos 0)) w,
+        ap (λ (f : Run). getD (f .out) 1 (pos 0)) w,
+        ap (λ (f : Run). f .irq) w,
+        ap (λ (f : Run). f .doubt) w,
+        first (x .mem .watch .latch && not (watchOf s .latch)),
+        first (x .mem .watch .doubt && not (watchOf s .doubt)),
+        at-0 o (p .left) (p .right) len,
+        at-1 o (p .left) (p .right) len,
+      ) (leaves-works (tick left right) s r m e z refl (does-bind {n = x .mem} {a = x .answer} _ (record { ran = refl }) (does-done _ _)))
 
 -- the pair as floats
 asFloats : Answer → Answer

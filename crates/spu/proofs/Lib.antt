@@ -2,3 +2,4 @@ pub mod Demand
 pub mod Range
 pub mod Numbers
 pub mod Lent
+pub mod Shape

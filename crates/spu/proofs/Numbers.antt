@@ -6,10 +6,11 @@ use Prim.Native.Nat.{ℕ, _/_, _≤_, _<_}
 use native.Mathlib.Omega.{arith}
 use lib.Dec.{eqb}
 use borrow.Author.Tests.{eq-eqb, ne-eqb, not-false}
+use Rattle.registers.specs.Offsets.{listed, readOnly, notWritten, notRead}
 use Rattle.chip.specs.declared.State.{State}
 use Rattle.chip.specs.State.{freshOf, sizeOk, stateOk}
-use Rattle.chip.specs.Registers.{listed, readOnly, notWritten, notRead, writeOf, readOf}
 use Rattle.chip.proofs.Tests.{ok-sized}
+use Rattle.ports.specs.Registers.{writeOf, readOf}
 use Rattle.spu.specs.Step.{write, read, reset, view, written, value, made, Test, test, firstOf, badCount, badBlock, lentTests, moveTests, numberOf, refusedOf, acceptedOf, stepOf, Gives, makeOf}
 use Rattle.spu.proofs.Range.{accepted-ok, accepted-listed, passed-first, passed-rest}
 

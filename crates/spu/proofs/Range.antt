@@ -13,12 +13,13 @@ use Rattle.soundram.specs.declared.Watch.{Watch}
 use Rattle.soundram.specs.Calls.{Reply, Doing, still, works, outcome}
 use Rattle.soundram.proofs.Addresses.{forward-multiple, forward-below}
 use Rattle.soundram.proofs.Programs.{Always, ends, always-bind, always-run}
+use Rattle.registers.specs.Offsets.{listed}
 use Rattle.chip.specs.declared.State.{State}
 use Rattle.chip.specs.State.{stateOk, watchedOf}
-use Rattle.chip.specs.Registers.{listed}
 use Rattle.chip.specs.Range.{Shaped, TransferIn, InRange}
 use Rattle.chip.proofs.Tests.{in-range, sized}
-use Rattle.chip.proofs.Ranges.{write-in, transfer-in, fresh-state-in}
+use Rattle.chip.proofs.Ranges.{transfer-in, fresh-state-in}
+use Rattle.ports.proofs.Ranges.{write-in}
 use Rattle.transfer.proofs.Moves.{inward-keeps, outward-keeps}
 use Rattle.tick.proofs.Range.{tick-in}
 use Rattle.spu.specs.Step.{Call, write, read, transferIn, transferOut, tick, tickFloats, reset, view, Answer, Test, firstOf, numberOf, refusedOf, acceptedOf, stepOf, chip}

@@ -11,9 +11,10 @@ use Rattle.stereo.specs.declared.Stereo.{Stereo}
 use Rattle.stereo.specs.Float.{stereoOf}
 use Rattle.soundram.specs.Program.{done, bind}
 use Rattle.soundram.specs.Calls.{Reply, Doing, still, works, Machine, Outcome, outcome}
+use Rattle.registers.specs.Offsets.{listed, readOnly, notWritten, notRead}
 use Rattle.chip.specs.declared.State.{State}
 use Rattle.chip.specs.State.{withTransfer, freshOf, sizeOk, stateOk, watchOf, watchedOf}
-use Rattle.chip.specs.Registers.{listed, readOnly, notWritten, notRead, writeOf, readOf}
+use Rattle.ports.specs.Registers.{writeOf, readOf}
 use Rattle.spu.specs.declared.Changed.{Changed}
 use Rattle.transfer.specs.Transfer.{inwardOf, outwardOf}
 use Rattle.tick.specs.declared.Pair.{Pair}

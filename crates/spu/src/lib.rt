@@ -1,12 +1,11 @@
 // The calls on a state.
 ghost use mathlib.Core.Path.{_≡_};
-ghost use mathlib.Core.Bool.{false, cond, _&&_, not};
+ghost use mathlib.Core.Bool.{false, _&&_, not};
 ghost use mathlib.Core.List.{[]};
 ghost use Prim.Native.Nat.{_-_};
-ghost use lib.Dec.{eqb};
-ghost use lib.ListN.{length, take, drop};
+ghost use lib.ListN.{length};
 ghost use Rattle.chip.specs.State.{withTransfer, watchedOf};
-ghost use Rattle.spu.specs.Step.{written, value as valued, moved, movedOut, pair, floats, made, write as writing, read as reading, transferIn, transferOut, tick as ticking, tickFloats, reset as resetting, view, viewed, firstOf, badCount, notInward, notOutward, lentTests, moveTests, numberOf, viewOf, Gives, Leaves, makeOf};
+ghost use Rattle.spu.specs.Step.{written, value as valued, moved, movedOut, pair, floats, made, write as writing, read as reading, transferIn, transferOut, tick as ticking, tickFloats, reset as resetting, view, firstOf, badCount, notInward, notOutward, lentTests, moveTests, numberOf, viewOf, Gives, Leaves, makeOf};
 use chip::State;
 use soundram::Watch;
 use stereo::Stereo;
@@ -53,13 +52,13 @@ fn write_number(s: State, offset: u32, value: u16) -> u8
     if !chip::ok(s) {
         return 2;
     }
-    if !chip::listed(offset) {
+    if !registers::listed(offset) {
         return 3;
     }
-    if chip::read_only(offset) {
+    if registers::read_only(offset) {
         return 4;
     }
-    if chip::not_written(offset, value) {
+    if registers::not_written(offset, value) {
         return 5;
     }
     0
@@ -71,7 +70,7 @@ pub fn write(s: State, offset: u32, value: u16) -> Changed
 {
     let number = write_number(s, offset, value);
     if number == 0 {
-        let state = chip::write(s, offset, value);
+        let state = ports::write(s, offset, value);
         return Changed { number, state };
     }
     let state = s;
@@ -84,7 +83,7 @@ fn read_number(s: State, offset: u32) -> u8
     if !chip::ok(s) {
         return 2;
     }
-    if !chip::listed(offset) {
+    if !registers::listed(offset) {
         return 3;
     }
     if offset == 0x1A8 {
@@ -99,7 +98,7 @@ pub fn read(s: State, offset: u32) -> Reading
 {
     let number = read_number(s, offset);
     if number == 0 {
-        let value = chip::read(s, offset);
+        let value = ports::read(s, offset);
         return Reading { number, value };
     }
     Reading { number, value: 0 }
@@ -133,7 +132,7 @@ pub struct Transferred {
 }
 
 // 1 or 2, or 0 where neither applies, of the lengths of what is lent.
-fn lent_number(s: State, ram: usize, marks: usize) -> u8
+pub fn lent_number(s: State, ram: usize, marks: usize) -> u8
     ensures { λ r. ⌜ r ≡ firstOf (lentTests s ram marks []) ⌝ }
 {
     let size = s.choices.size as usize;
@@ -162,16 +161,16 @@ pub fn tick(s: State, ram: &mut [u8], marks: &mut [u8], left: i16, right: i16) -
             state,
         };
     }
-    let w = chip::watch(s);
-    let t = tick::run(s, ram, marks, left, right, w);
-    let state = chip::watched(t.state, t.watch);
-    let pair = t.pair;
+    let cd = [left, right];
+    let mut out = [0i16; 2];
+    let ran = runs::run(s, ram, marks, &cd, &mut out);
+    let state = ran.state;
     Ticked {
         number,
-        left: pair.left,
-        right: pair.right,
-        irq: t.watch.latch & !w.latch,
-        doubt: t.watch.doubt & !w.doubt,
+        left: out[0],
+        right: out[1],
+        irq: ran.irq == 0,
+        doubt: ran.doubt == 0,
         state,
     }
 }

@@ -1,11 +1,12 @@
 -- A tick's stages, from what the code's parts give. Primed names are values as the calls have them. Assumes nothing.
-use mathlib.Core.Path.{_≡_}
+use mathlib.Core.Path.{_≡_, sym, ap, _∙_}
 use mathlib.Core.Bool.{Bool, true, false, cond, _&&_, not}
 use mathlib.Core.List.{List}
-use Prim.Native.Nat.{ℕ, _+_, _/_, _%_, _^_}
+use Prim.Native.Nat.{ℕ, _+_, _*_, _/_, _%_, _^_}
 use native.Mathlib.Omega.{arith}
 use borrow.Author.Tests.{eq-eqb, ne-eqb, not-true, not-false}
 use lib.Dec.{eqb}
+use lib.ListN.{getD, set}
 use lib.IntN.{ℤ, pos, _+ℤ_}
 use Rattle.fixed.specs.Bits.{bit}
 use Rattle.fixed.specs.Signed.{signed, bitsOf}
@@ -15,13 +16,14 @@ use Rattle.noise.specs.declared.Noise.{Noise}
 use Rattle.noise.specs.Noise.{tickedOf}
 use Rattle.soundram.specs.declared.ByteAddress.{ByteAddress}
 use Rattle.soundram.specs.Address.{addressOf, Sized}
-use Rattle.soundram.specs.Program.{Mem, Does, put, repeat}
-use Rattle.soundram.proofs.Programs.{does-give, does-bind}
+use Rattle.soundram.specs.declared.Watch.{Watch}
+use Rattle.soundram.specs.Program.{Prog, done, bind, Mem, run, Does, put, repeat}
+use Rattle.soundram.proofs.Programs.{run-bind, does-give, does-bind}
 use Rattle.registers.specs.Map.{registerAt}
 use Rattle.voice.specs.declared.Voice.{Voice}
 use Rattle.voices.specs.declared.Captured.{Captured}
 use Rattle.voices.specs.declared.Sums.{Sums}
-use Rattle.voices.specs.Voices.{noSums, voiceAt}
+use Rattle.voices.specs.Voices.{noSums, mixedOf, voiceAt}
 use Rattle.reverb.specs.declared.Turning.{Turning}
 use Rattle.reverb.specs.Reverb.{AreaIn, sideOf, turnOf}
 use Rattle.chip.specs.declared.Held.{Held}
@@ -29,7 +31,10 @@ use Rattle.chip.specs.declared.Reverb.{Reverb}
 use Rattle.chip.specs.declared.State.{State}
 use Rattle.chip.specs.Range.{PlaceIn}
 use Rattle.tick.specs.declared.Pair.{Pair}
-use Rattle.tick.specs.Tick.{cdOf, mixOf, pairOf, captureAt, captureBoth, captureOf, captureNext, turningOf, inputOf, enteringOf, placeAfter, heldOf, reverbAfter, reverbOf, tickOf}
+use Rattle.tick.specs.declared.Rest.{Rest}
+use Rattle.tick.specs.declared.Going.{Going}
+use Rattle.tick.specs.Tick.{cdOf, mixOf, pairOf, captureAt, captureBoth, captureOf, captureNext, turningOf, inputOf, enteringOf, placeAfter, heldOf, reverbAfter, reverbOf, Closing, closeOf, tickOf}
+use Rattle.tick.specs.Run.{joinOf, Finishes}
 
 -- ---- mix: b is the bit of SPUCNT
 
@@ -143,27 +148,46 @@ pub turn-does : (regs : List ℕ) (size : ℕ) (r : Reverb) (s : Sums) (left rig
 unfolding reverbOf
 turn-does regs size r s left right {n} eu eb et ex el er ex′ d eq eo = does-bind _ (rw (et, ex′, ex, el, er, eb, eu) at d) (does-give n (rw (eq, eo, eb, eu)))
 
--- ---- the whole tick
+-- ---- the end of a tick
 
-pub tick-does : (s : State) (left right : ℤ) {c : ℕ} {z : Noise} {vs : List Voice} {sums : Sums} {r : Reverb} {p : Pair} {l₁ r₁ l₂ r₂ l₃ r₃ : ℤ} {t : ℕ} {j k m n : Mem} → c ≡ registerAt (s .regs) 0x1AA → z ≡ tickedOf (s .noise) c
-    → Does (repeat (voiceAt (s .choices .size) (s .regs) (z .level)) 24 (record { voices = s .voices; sums = noSums })) j (record { voices = vs; sums = sums }) k
-    → l₁ ≡ left → r₁ ≡ right → Does (captureOf (s .capture) l₁ r₁ (sums .captured)) k tt m
-    → l₂ ≡ left → r₂ ≡ right → Does (reverbOf (s .regs) (s .choices .size) (s .reverb) sums l₂ r₂) m r n
-    → l₃ ≡ left → r₃ ≡ right → p ≡ pairOf (s .regs) (s .reverb .held) sums l₃ r₃ → t ≡ (s .tick + 1) % 2 ^ 32
-    → Does (tickOf s left right) j (record {
-      answer = p;
-      state = record {
-        choices = s .choices;
-        regs = s .regs;
-        voices = vs;
-        noise = z;
-        control = record { applied = c % 0x40; latch = s .control .latch; doubt = s .control .doubt };
-        capture = captureNext (s .capture);
-        reverb = r;
-        transfer = s .transfer;
-        tick = t;
-      };
-    }) n
-unfolding tickOf
-tick-does s left right {n} ec ez dv el er dc el′ er′ dr el″ er″ ep et =
-    does-bind _ (rw (ez, ec) at dv) (does-bind _ (rw (el, er) at dc) (does-bind _ (rw (el′, er′) at dr) (does-give n (rw (ep, el″, er″, et, ez, ec)))))
+-- s are the sums, c is SPUCNT, t the tick number as the calls have them
+pub close-does : (regs : List ℕ) (size : ℕ) (r : Rest) (z : Noise) (sums : Sums) (left right : ℤ) {s : Sums} {c t : ℕ} {v : Reverb} {p : Pair} {l₁ r₁ l₂ r₂ l₃ r₃ : ℤ} {k m n : Mem} → s ≡ sums
+    → l₁ ≡ left → r₁ ≡ right → Does (captureOf (r .capture) l₁ r₁ (s .captured)) k tt m
+    → l₂ ≡ left → r₂ ≡ right → Does (reverbOf regs size (r .reverb) s l₂ r₂) m v n
+    → l₃ ≡ left → r₃ ≡ right → p ≡ pairOf regs (r .reverb .held) s l₃ r₃ → c ≡ registerAt regs 0x1AA → t ≡ (r .tick + 1) % 2 ^ 32
+    → Does (closeOf regs size r z sums left right) k
+    (record { pair = p; rest = record { noise = z; applied = c % 0x40; capture = captureNext (r .capture); reverb = v; tick = t } }) n
+unfolding closeOf
+close-does regs size r z sums left right {n} es el er dc el′ er′ dr el″ er″ ep ec et =
+    does-bind _ (rw (el, er, es) at dc) (does-bind _ (rw (el′, er′, es) at dr) (does-give n (rw (ep, el″, er″, es, ec, et))))
+
+-- a program's answer, carried further
+carried : {A B C D : Type 0} (p : Prog A) (q : A → Prog B) (f : B → C) (g : C → D) {m n : Mem} {c : C} → Does (bind p (λ a. bind (q a) (λ b. done (f b)))) m c n
+    → Does (bind p (λ a. bind (q a) (λ b. done (g (f b))))) m (g c) n
+unfolding run
+carried p q f g {m} d =
+    record {
+      ran =
+          run-bind p (λ a. bind (q a) (λ b. done (g (f b)))) m ∙ run-bind (q (run p m .answer)) (λ b. done (g (f b))) (run p m .mem)
+          ∙ ap (λ r. record { answer = g (r .answer); mem = r .mem })
+          (sym (run-bind (q (run p m .answer)) (λ b. done (f b)) (run p m .mem)) ∙ sym (run-bind p (λ a. bind (q a) (λ b. done (f b))) m) ∙ d .ran);
+    }
+
+-- the whole tick: the voices, then its end
+pub tick-does : (s : State) (vs : List Voice) (r : Rest) (w : Watch) (left right : ℤ) {z : Noise} {us : List Voice} {sums : Sums} {p : Pair} {q : Rest} {j k n : Mem}
+    → z ≡ tickedOf (r .noise) (registerAt (s .regs) 0x1AA)
+    → Does (repeat (voiceAt (s .choices .size) (s .regs) (z .level)) 24 (record { voices = vs; sums = noSums })) j (record { voices = us; sums = sums }) k
+    → Does (closeOf (s .regs) (s .choices .size) r z sums left right) k (record { pair = p; rest = q }) n
+    → Does (tickOf (joinOf s vs r w) left right) j (record { answer = p; state = joinOf s us q w }) n
+unfolding tickOf closeOf
+tick-does s vs r w left right {z} {us} {sums} ez dv dc =
+    does-bind _ (rw ez at dv) (carried _ _ _ (λ (c : Closing). record { answer = c .pair; state = joinOf s us (c .rest) w }) (rw ez at dc))
+
+-- l, r are the CD's pair, x, y the pair that is heard, c is SPUCNT as the calls have them
+pub finish-does : (regs : List ℕ) (size : ℕ) (g : Going) (hs cd : List ℤ) (k : ℕ) (before : List ℤ) (h : Going) {m m′ : Mem} {l r x y : ℤ} {p : Pair} {c : ℕ} → l ≡ getD cd (k * 2) (pos 0)
+    → r ≡ getD cd (k * 2 + 1) (pos 0) → Does (closeOf regs size (g .rest) (g .noise) (mixedOf regs hs 24) l r) m (record { pair = p; rest = h .rest }) m′
+    → x ≡ p .left → y ≡ p .right → c ≡ registerAt regs 0x1AA → h .noise ≡ tickedOf (h .rest .noise) c
+    → h .irq ≡ cond (h .watch .latch && not (g .watch .latch)) k (g .irq) → h .doubt ≡ cond (h .watch .doubt && not (g .watch .doubt)) k (g .doubt)
+    → Finishes regs size g hs cd k m before h m′ (set (set before (k * 2) x) (k * 2 + 1) y)
+finish-does regs size g hs cd k before h {p} el er d ex ey ec ez ei ed =
+    record { pair = p; closes = rw (el, er) at d; out = rw (ex, ey); noise = rw (← ec) ez; irq = ei; doubt = ed }

@@ -1,1 +1,2 @@
 pub mod Tick
+pub mod Run

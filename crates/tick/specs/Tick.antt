@@ -7,6 +7,7 @@ use lib.IntN.{ℤ, pos, _+ℤ_}
 use Rattle.fixed.specs.Bits.{bit}
 use Rattle.fixed.specs.Signed.{signed, bitsOf}
 use Rattle.fixed.specs.Arithmetic.{saturated, productOf, volumeOf}
+use Rattle.noise.specs.declared.Noise.{Noise}
 use Rattle.noise.specs.Noise.{tickedOf}
 use Rattle.soundram.specs.Program.{Prog, done, bind, put, repeat}
 use Rattle.soundram.specs.Calls.{Reply}
@@ -22,6 +23,7 @@ use Rattle.chip.specs.declared.Reverb.{Reverb}
 use Rattle.chip.specs.declared.State.{State}
 use Rattle.chip.specs.State.{baseAt}
 use Rattle.tick.specs.declared.Pair.{Pair}
+use Rattle.tick.specs.declared.Rest.{Rest}
 
 -- ---- mix
 
@@ -98,6 +100,22 @@ unfoldable pub reverbOf : List ℕ → ℕ → Reverb → Sums → ℤ → ℤ �
 reverbOf regs size r sums left right =
     let base = baseAt size regs .0 in
     bind (turnOf regs (areaOf size base r) (turningOf regs (r .right)) (enteringOf regs (r .right) sums left right)) (λ out. done (reverbAfter size base r out))
+
+-- ---- what is left of a tick once its voices have played, of their sums and of this tick's noise
+
+pub record Closing : Type 0 where
+  pub pair : Pair
+  pub rest : Rest
+
+unfoldable pub closeOf : List ℕ → ℕ → Rest → Noise → Sums → ℤ → ℤ → Prog Closing
+closeOf regs size r noise sums left right =
+    bind (captureOf (r .capture) left right (sums .captured)) (λ _.
+    bind (reverbOf regs size (r .reverb) sums left right) (λ v.
+    done (record {
+      pair = pairOf regs (r .reverb .held) sums left right;
+      rest =
+          record { noise = noise; applied = registerAt regs 0x1AA % 0x40; capture = captureNext (r .capture); reverb = v; tick = (r .tick + 1) % 2 ^ 32 };
+    })))
 
 -- ---- the whole tick, of the raw CD pair
 

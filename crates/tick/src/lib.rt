@@ -1,7 +1,8 @@
-// One tick of the whole chip: control, noise, voices, mix, capture, reverb.
+// Ticks of the whole chip: control, noise, voices, mix, capture, reverb.
 ghost use mathlib.Core.Path.{_≡_};
 ghost use mathlib.Core.Bool.{cond};
-ghost use Prim.Native.Nat.{_+_, _^_, _%_, _≤_, _<_};
+ghost use Prim.Native.Nat.{_+_, _*_, _<_};
+ghost use lib.ListN.{length};
 ghost use lib.IntN.{pos, _+ℤ_};
 ghost use Rattle.fixed.specs.Range.{In};
 ghost use Rattle.fixed.specs.Arithmetic.{saturated};
@@ -9,14 +10,15 @@ ghost use Rattle.fixed.specs.Bits.{bit};
 ghost use Rattle.registers.specs.Map.{registerAt};
 ghost use Rattle.soundram.specs.Address.{Lent};
 ghost use Rattle.soundram.specs.Program.{Does, memOf};
-ghost use Rattle.voices.specs.Voices.{SumsIn, AllIn};
+ghost use Rattle.voices.specs.Voices.{SumsIn, mixedOf};
 ghost use Rattle.chip.specs.Range.{CaptureIn, PlaceIn};
-ghost use Rattle.chip.specs.State.{baseAt, baseOf};
-ghost use Rattle.tick.specs.Tick.{cdOf, mixOf, pairOf, captureOf, captureBoth, captureAt, turningOf, inputOf, enteringOf, placeAfter, heldOf, reverbAfter, reverbOf, tickOf};
-use chip::Control;
+ghost use Rattle.chip.specs.State.{baseAt};
+ghost use Rattle.tick.specs.Tick.{cdOf, mixOf, pairOf, captureOf, captureBoth, captureAt, turningOf, inputOf, enteringOf, placeAfter, heldOf, reverbAfter, reverbOf, closeOf};
+ghost use Rattle.tick.specs.Run.{restOf, beginOf, Finishes};
 use chip::Held;
 use chip::Reverb;
 use chip::State;
+use noise::Noise;
 use reverb::Area;
 use reverb::Turning;
 use soundram::ByteAddress;
@@ -31,10 +33,29 @@ pub struct Pair {
     pub right: i16,
 }
 
-pub struct Ticked {
-    pub pair: Pair,
-    pub state: State,
+// What a tick changes beside the voices.
+pub struct Rest {
+    pub noise: Noise,
+    pub applied: u16,
+    pub capture: u16,
+    pub reverb: Reverb,
+    pub tick: u32,
+}
+
+// The end of a tick.
+struct Closed {
+    rest: Rest,
+    pair: Pair,
+    watch: Watch,
+}
+
+// Where a run is: what this tick found, its noise, and what it watched from its start on; the ticks that reported.
+pub struct Going {
+    pub rest: Rest,
+    pub noise: Noise,
     pub watch: Watch,
+    pub irq: usize,
+    pub doubt: usize,
 }
 
 // The reverb after its turn.
@@ -256,32 +277,30 @@ fn turn(
     Turned { reverb, watch }
 }
 
-// ---- the whole tick, of the raw CD pair
+// ---- the end of a tick
 
-pub fn run(s: State, ram: &mut [u8], marks: &mut [u8], left: i16, right: i16, w: Watch) -> Ticked
-    requires { ⌜ Lent (s .choices .size) (now ram) (now marks) × AllIn (s .choices .size) (s .voices) × CaptureIn (s .capture) × PlaceIn (s .choices .size) (baseOf s .0) (s .reverb .place .0) ⌝ }
-    ensures { λ r. ⌜ Does (tickOf s left right) (memOf (now (ram .entry)) (now (marks .entry)) w) (record { answer = r .pair; state = r .state }) (memOf (now (ram .exit)) (now (marks .exit)) (r .watch)) ⌝ }
+// Once the voices have played, of this tick's noise.
+fn close(
+    regs: &[u16; 256],
+    size: u32,
+    r: Rest,
+    n: Noise,
+    amplitudes: [i16; 24],
+    ram: &mut [u8],
+    marks: &mut [u8],
+    left: i16,
+    right: i16,
+    w: Watch,
+) -> Closed
+    requires { ⌜ Lent size (now ram) (now marks) × CaptureIn (r .capture) × PlaceIn size (baseAt size (now regs) .0) (r .reverb .place .0) ⌝ }
+    ensures { λ c. ⌜ Does (closeOf (now (regs .entry)) size r n (mixedOf (now (regs .entry)) amplitudes 24) left right) (memOf (now (ram .entry)) (now (marks .entry)) w) (record { pair = c .pair; rest = c .rest }) (memOf (now (ram .exit)) (now (marks .exit)) (c .watch)) ⌝ }
 {
-    let size = s.choices.size;
-    let spucnt = registers::at(&s.regs, 0x1AA);
-    let noise = noise::tick(s.noise, spucnt);
-    let before = s.voices;
-    let v = voices::tick(&s.regs, size, noise.level, before, ram, marks, w);
-    let sums = v.sums;
-    let captured = capture(
-        ram,
-        marks,
-        size,
-        s.capture,
-        left,
-        right,
-        sums.captured,
-        v.watch,
-    );
+    let sums = voices::mix(regs, amplitudes);
+    let captured = capture(ram, marks, size, r.capture, left, right, sums.captured, w);
     let t = turn(
-        &s.regs,
+        regs,
         size,
-        s.reverb,
+        r.reverb,
         sums,
         left,
         right,
@@ -289,21 +308,107 @@ pub fn run(s: State, ram: &mut [u8], marks: &mut [u8], left: i16, right: i16, w:
         marks,
         captured,
     );
-    let pair = mixed(&s.regs, s.reverb.held, sums, left, right);
-    let voices = v.voices;
+    let pair = mixed(regs, r.reverb.held, sums, left, right);
+    let noise = n;
     let reverb = t.reverb;
     let watch = t.watch;
-    let control = Control {
-        applied: spucnt % 0x40,
-        latch: s.control.latch,
-        doubt: s.control.doubt,
+    let rest = Rest {
+        noise,
+        applied: registers::at(regs, 0x1AA) % 0x40,
+        capture: (r.capture + 2) % 0x400,
+        reverb,
+        tick: std::num::wrapping_add_u32(r.tick, 1),
     };
-    let mut state = s;
-    state.voices = voices;
-    state.noise = noise;
-    state.control = control;
-    state.capture = (s.capture + 2) % 0x400;
-    state.reverb = reverb;
-    state.tick = std::num::wrapping_add_u32(s.tick, 1);
-    Ticked { pair, state, watch }
+    Closed { rest, pair, watch }
+}
+
+// ---- a tick in a run
+
+fn rest_of(s: State) -> Rest
+    ensures { λ r. ⌜ r ≡ restOf s ⌝ }
+{
+    let noise = s.noise;
+    let reverb = s.reverb;
+    Rest {
+        noise,
+        applied: s.control.applied,
+        capture: s.capture,
+        reverb,
+        tick: s.tick,
+    }
+}
+
+// Tick k, if it reported, or the one that did before it.
+fn reported(here: bool, k: usize, before: usize) -> usize
+    ensures { λ r. ⌜ r ≡ cond here k before ⌝ }
+{
+    if here {
+        return k;
+    }
+    before
+}
+
+// Tick k ends: its pair goes to the buffer, and the next tick's noise is made.
+pub fn finish(
+    regs: &[u16; 256],
+    size: u32,
+    g: Going,
+    amplitudes: [i16; 24],
+    ram: &mut [u8],
+    marks: &mut [u8],
+    cd: &[i16],
+    out: &mut [i16],
+    k: usize,
+    w: Watch,
+) -> Going
+    requires { ⌜ Lent size (now ram) (now marks) × CaptureIn (g .rest .capture) × PlaceIn size (baseAt size (now regs) .0) (g .rest .reverb .place .0) × (k * 2 + 1 < length (now cd)) × (length (now cd) ≡ length (now out)) ⌝ }
+    ensures { λ r. ⌜ Finishes (now (regs .entry)) size g amplitudes (now (cd .entry)) k (memOf (now (ram .entry)) (now (marks .entry)) w) (now (out .entry)) r (memOf (now (ram .exit)) (now (marks .exit)) (r .watch)) (now (out .exit)) ⌝ }
+{
+    let i = k * 2;
+    let left = cd[i];
+    let right = cd[i + 1];
+    let c = close(
+        regs,
+        size,
+        g.rest,
+        g.noise,
+        amplitudes,
+        ram,
+        marks,
+        left,
+        right,
+        w,
+    );
+    let pair = c.pair;
+    let rest = c.rest;
+    let watch = c.watch;
+    let heard_left = pair.left;
+    let heard_right = pair.right;
+    out[i] = heard_left;
+    out[i + 1] = heard_right;
+    let noise = noise::tick(rest.noise, registers::at(regs, 0x1AA));
+    Going {
+        rest,
+        noise,
+        watch,
+        irq: reported(watch.latch & !g.watch.latch, k, g.irq),
+        doubt: reported(watch.doubt & !g.watch.doubt, k, g.doubt),
+    }
+}
+
+// Before a run of so many ticks.
+pub fn begin(s: State, count: usize) -> Going
+    requires { ⌜ 0 < s .choices .size ⌝ }
+    ensures { λ r. ⌜ r ≡ beginOf s count ⌝ }
+{
+    let rest = rest_of(s);
+    let noise = noise::tick(s.noise, registers::at(&s.regs, 0x1AA));
+    let watch = chip::watch(s);
+    Going {
+        rest,
+        noise,
+        watch,
+        irq: count,
+        doubt: count,
+    }
 }

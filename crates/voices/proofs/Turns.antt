@@ -1,5 +1,5 @@
 -- The voices one after the other. Assumes nothing.
-use mathlib.Core.Path.{_≡_, refl, sym, subst, _∙_}
+use mathlib.Core.Path.{_≡_, refl, sym, ap, subst, _∙_}
 use mathlib.Core.Bool.{Bool, true}
 use mathlib.Core.List.{List}
 use Prim.Native.Nat.{ℕ, zero, suc, _+_, _≤_, _<_}
@@ -11,9 +11,10 @@ use lib.Seq.{getD-set-same, getD-set-other, set-getD}
 use lib.IntN.{ℤ, pos}
 use Rattle.soundram.specs.declared.Reader.{Reader}
 use Rattle.soundram.specs.Address.{Sized}
-use Rattle.soundram.specs.Program.{Mem, Does, repeat}
+use Rattle.soundram.specs.declared.Watch.{Watch}
+use Rattle.soundram.specs.Program.{Prog, Mem, memOf, run, Does, repeat}
 use Rattle.soundram.specs.TwoRuns.{Safe}
-use Rattle.soundram.proofs.Programs.{Always, ends, always-bind, always-does, does-done, does-give, does-bind, repeat-none, repeat-more}
+use Rattle.soundram.proofs.Programs.{Always, ends, always-bind, does-done, does-give, does-bind, repeat-none, repeat-more, repeat-end}
 use Rattle.soundram.proofs.TwoRuns.{safe-done, safe-bind, safe-repeat}
 use Rattle.voice.specs.declared.Voice.{Voice}
 use Rattle.voice.specs.declared.Settings.{Settings}
@@ -56,7 +57,9 @@ all-set {size} vs n {w} a l h r =
 mixed-kept : (regs : List ℕ) (hs : List ℤ) (n : ℕ) (a : ℤ) (k : ℕ) → k ≤ n → mixedOf regs (set hs n a) k ≡ mixedOf regs hs k
 unfolding mixedOf
 mixed-kept regs hs n a zero h = refl
-mixed-kept regs hs n a (suc k) h = rw (mixed-kept regs hs n a k (omega arith), getD-set-other hs n k a (pos 0) (other h))
+mixed-kept regs hs n a (suc k) h =
+    ap (λ (x : ℤ). addedOf regs k x (mixedOf regs (set hs n a) k)) (getD-set-other hs n k a (pos 0) (other h))
+    ∙ ap (addedOf regs k (getD hs k (pos 0))) (mixed-kept regs hs n a k (omega arith))
   where
     other : suc k ≤ n → k ≡ n → ⊥
     other h e = omega arith
@@ -111,10 +114,16 @@ module _ {size : ℕ} {regs : List ℕ} {level : ℕ} where
       (λ (k : ℕ). Does (repeat (voiceAt size regs level) k (record { voices = vs₀; sums = noSums })) m₀ (record { voices = vs; sums = mixedOf regs hs k }) m) e
       (p .does)
 
-pub play-mixed : (size : ℕ) (regs : List ℕ) (level : ℕ) (vs : List Voice) (hs : List ℤ) {us : List Voice} {s : Sums} {m o : Mem}
-    → Does (repeat (voiceAt size regs level) 24 (record { voices = vs; sums = noSums })) m (record { voices = us; sums = mixedOf regs hs 24 }) o → s ≡ mixedOf regs hs 24
-    → Does (repeat (voiceAt size regs level) 24 (record { voices = vs; sums = noSums })) m (record { voices = us; sums = s }) o
-play-mixed size regs level vs hs d e = rw e d
+still : {S : Type 0} (f : ℕ → S → Prog S) (s : S) {t : S} {m o : Mem} → Does (repeat f 0 s) m t o → (t ≡ s) × (o ≡ m)
+unfolding repeat run
+still f s d = (sym (ap (λ r. r .answer) (d .ran)), sym (ap (λ r. r .mem) (d .ran)))
+
+-- before any voice has played
+pub play-before : {size : ℕ} {regs : List ℕ} {level : ℕ} {vs₀ : List Voice} {ram marks : List ℕ} {v w : Watch} {n : ℕ} {vs : List Voice} {hs : List ℤ} {b : ℤ} → Play size regs level vs₀ (memOf ram marks v) n vs hs b (memOf ram marks w)
+    → n ≡ 0 → (vs ≡ vs₀) × (w ≡ v)
+play-before p e =
+    let d = still _ _ (repeat-end _ _ 0 _ _ (p .does) (omega arith) (omega arith)) in
+    (ap (λ (b : Bank). b .voices) (d .0), ap (λ (m : Mem). m .watch) (d .1))
 
 -- ---- the voices' programs are safe, and keep them in range
 

@@ -1,45 +1,39 @@
-use mathlib.Core.Path.{_≡_}
 use Prim.Native.Nat.{_-_, _≤_}
-use native.Mathlib.Omega.{arith}
-use borrow.Author.Needs.{needs}
+use mathlib.Core.Path.{_≡_}
 use lib.ListN.{length}
+use borrow.Author.Needs.{needs}
 use Rattle.scene.proofs.play.Statement.{statement}
 use Rattle.scene.proofs.play.Tie as tie
 
 abbrev Inv-loop : tie.InvT-loop
-Inv-loop ram₀ marks₀ ticks t₀ heard₀ counter₀ ram marks t heard counter = (counter ≤ ticks) × (length ram ≡ length ram₀) × (length marks ≡ length marks₀)
+Inv-loop ram₀ marks₀ count cd t₀ out₀ sum₀ counter₀ ram marks t out sum counter = (counter ≤ count) × (length ram ≡ length ram₀) × (length marks ≡ length marks₀) × (length out ≡ 200)
 
 abbrev μ-loop : tie.MeasureT-loop
-μ-loop ram₀ marks₀ ticks t₀ heard₀ counter₀ ram marks t heard counter = ticks - counter
+μ-loop ram₀ marks₀ count cd t₀ out₀ sum₀ counter₀ ram marks t out sum counter = count - counter
 
 loop-holds : tie.Need-loop-holds Inv-loop μ-loop
 loop-holds c = search needs
 
-tick-requires : tie.Need-tick-requires Inv-loop μ-loop
-tick-requires c κs = search needs
+slice-aggregate-run : tie.Need-slice-aggregate-run Inv-loop μ-loop
+slice-aggregate-run c = search needs
 
-to-bits-requires : tie.Need-to-bits-requires Inv-loop μ-loop
-to-bits-requires c κs = search needs
+slice-aggregate-run-2 : tie.Need-slice-aggregate-run-2 Inv-loop μ-loop
+slice-aggregate-run-2 c = search needs
 
-cast-wrapping-add-u32 : tie.Need-cast-wrapping-add-u32 Inv-loop μ-loop
-cast-wrapping-add-u32 c = search needs
+run-requires : tie.Need-run-requires Inv-loop μ-loop
+run-requires c κs = search needs
 
-to-bits-requires-2 : tie.Need-to-bits-requires-2 Inv-loop μ-loop
-to-bits-requires-2 c κs = search needs
+slice-aggregate-heard : tie.Need-slice-aggregate-heard Inv-loop μ-loop
+slice-aggregate-heard c = search needs
 
-cast-wrapping-add-u32-2 : tie.Need-cast-wrapping-add-u32-2 Inv-loop μ-loop
-cast-wrapping-add-u32-2 c = search needs
-
-add-wrapping-add-u32 : tie.Need-add-wrapping-add-u32 Inv-loop μ-loop
-add-wrapping-add-u32 c = search needs
+heard-requires : tie.Need-heard-requires Inv-loop μ-loop
+heard-requires c κs = search needs
 
 wrapping-add-u32-requires : tie.Need-wrapping-add-u32-requires Inv-loop μ-loop
 wrapping-add-u32-requires c κs = search needs
 
 add-counter : tie.Need-add-counter Inv-loop μ-loop
-add-counter c =
-    let a = c .before .before .before .before .before .before .before .before .before .before .before .before .before in
-    omega (arith, a .loop-test .taken)
+add-counter c = search needs
 
 loop-less : tie.Need-loop-less Inv-loop μ-loop
 loop-less c = search needs
@@ -63,12 +57,11 @@ play-spec =
     Inv-loop
     μ-loop
     loop-holds
-    tick-requires
-    to-bits-requires
-    cast-wrapping-add-u32
-    to-bits-requires-2
-    cast-wrapping-add-u32-2
-    add-wrapping-add-u32
+    slice-aggregate-run
+    slice-aggregate-run-2
+    run-requires
+    slice-aggregate-heard
+    heard-requires
     wrapping-add-u32-requires
     add-counter
     loop-less

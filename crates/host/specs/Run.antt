@@ -1,0 +1,62 @@
+-- A run of ticks, for hosts that want many at a time: n ticks, each on what the one before it left. Assumes nothing.
+use mathlib.Core.Bool.{cond, _||_, not}
+use mathlib.Core.List.{List, [], _∷_}
+use Prim.Native.Nat.{ℕ, zero, suc, _+_, _*_, _/_, _%_}
+use lib.Dec.{eqb}
+use lib.ListN.{length, getD, set}
+use lib.IntN.{ℤ, pos}
+use Rattle.chip.specs.declared.State.{State}
+use Rattle.tick.specs.declared.Pair.{Pair}
+use Rattle.runs.specs.Run.{Run}
+use Rattle.spu.specs.Step.{tick, Answer, written, value, moved, movedOut, pair, floats, made, viewed, Test, test, firstOf, lentTests, outcomeOf}
+
+-- 9: the buffer is not of whole pairs, or the CD's is of another length
+abbrev pub runTests : ℕ → ℕ → List Test
+runTests cd out = test (not (eqb cd out) || not (eqb (out % 2) 0)) 9 ∷ []
+
+abbrev silence : Pair
+silence = record { left = pos 0; right = pos 0 }
+
+-- the pair of a tick's answer
+abbrev pairIn : Answer → Pair
+pairIn (written n) = silence
+pairIn (value n v) = silence
+pairIn (moved n k) = silence
+pairIn (movedOut n k b) = silence
+pairIn (pair n p) = p
+pairIn (floats n f) = silence
+pairIn (made n) = silence
+pairIn (viewed n k) = silence
+
+-- tick k, as the call `tick` gives it
+unfoldable pub tickAt : List ℤ → ℕ → Run → Run
+tickAt cd k f =
+    let o = outcomeOf (tick (getD cd (k * 2) (pos 0)) (getD cd (k * 2 + 1) (pos 0))) (f .state) (f .ram) (f .marks) in
+    record {
+      state = o .state;
+      ram = o .ram;
+      marks = o .marks;
+      out = set (set (f .out) (k * 2) (pairIn (o .answer) .left)) (k * 2 + 1) (pairIn (o .answer) .right);
+      irq = cond (o .irq) k (f .irq);
+      doubt = cond (o .doubt) k (f .doubt);
+    }
+
+unfoldable pub ticksOf : List ℤ → ℕ → Run → Run
+ticksOf cd zero f = f
+ticksOf cd (suc k) f = tickAt cd k (ticksOf cd k f)
+
+pub record Outcome : Type 0 where
+  pub number : ℕ
+  pub count : ℕ
+  pub run : Run
+
+-- before a run, of which none has reported
+abbrev pub startOf : State → List ℕ → List ℕ → List ℤ → ℕ → Run
+startOf s ram marks out none = record { state = s; ram = ram; marks = marks; out = out; irq = none; doubt = none }
+
+unfoldable pub ranOf : State → List ℕ → List ℕ → List ℤ → List ℤ → Outcome
+ranOf s ram marks cd out =
+    let n = firstOf (lentTests s (length ram) (length marks) (runTests (length cd) (length out))) in
+    let k = length out / 2 in
+    cond (eqb n 0) (record { number = 0; count = k; run = ticksOf cd k (startOf s ram marks out k) })
+    (record { number = n; count = 0; run = startOf s ram marks out 0 })
