@@ -9,9 +9,9 @@ fn print_number(n: u64, end: u8) {
 }
 
 fn line(s: State, offset: u32, value: u16) -> State {
-    let w = spu::write(s, offset, value);
+    let w = spu_registers::write(s, offset, value);
     let state = w.state;
-    let r = spu::read(state, offset);
+    let r = spu_registers::read(state, offset);
     print_number(offset as u64, b' ');
     print_number(w.number as u64, b' ');
     print_number(r.number as u64, b' ');
@@ -28,7 +28,7 @@ fn pass(s: State, value: u16) -> State {
 }
 
 fn main() {
-    let m = spu::make(0x80000);
+    let m = spu_registers::make(0x80000);
     let a = m.state;
     let b = pass(a, 0x7654);
     let c = pass(b, 0x8123);

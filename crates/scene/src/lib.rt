@@ -40,7 +40,7 @@ const HALL: [u16; 32] = [
 ];
 
 fn set(s: State, offset: u32, value: u16) -> State {
-    let c = spu::write(s, offset, value);
+    let c = spu_registers::write(s, offset, value);
     c.state
 }
 
@@ -157,7 +157,7 @@ fn play_ticks(s: State, ram: &mut [u8], marks: &mut [u8], ticks: u32) -> u32 {
     let mut t = s;
     let mut sum = 0u32;
     for _ in 0..ticks {
-        let r = spu::tick(t, ram, marks, 0x1234, 0x1234);
+        let r = spu_tick::tick(t, ram, marks, 0x1234, 0x1234);
         let next = r.state;
         t = next;
         sum = std::num::wrapping_add_u32(
@@ -178,7 +178,7 @@ pub extern "C" fn tenonwhisk_scene(
     single: bool,
 ) -> u32 {
     prepare(ram, marks);
-    let m = spu::make(size);
+    let m = spu_registers::make(size);
     let s = start(hall(voices(m.state)), base);
     if single {
         return play_ticks(s, ram, marks, count);

@@ -107,19 +107,19 @@ fn write_answer(out: &mut [u8], s: Session, number: u8) -> usize {
 }
 
 fn write(out: &mut [u8], s: Session, offset: u16, value: u16) -> Session {
-    let w = spu::write(s.state, offset as u32, value);
+    let w = spu_registers::write(s.state, offset as u32, value);
     let state = w.state;
     let place = write_answer(out, s, w.number);
     changed(s, state, place)
 }
 
 fn read(out: &mut [u8], s: Session, offset: u16) -> Session {
-    let r = spu::read(s.state, offset as u32);
+    let r = spu_registers::read(s.state, offset as u32);
     placed(s, answers::was_read(out, s.place, r.number, r.value))
 }
 
 fn reset(out: &mut [u8], s: Session) -> Session {
-    let r = spu::reset(s.state);
+    let r = spu_registers::reset(s.state);
     let state = r.state;
     let place = answers::was_reset(out, s.place, r.number);
     changed(s, state, place)
@@ -155,7 +155,7 @@ fn inward(
 ) -> Session {
     let values = commands::values(l);
     let n = least(count, 33);
-    let r = spu::transfer_in(s.state, ram, marks, &values[..n]);
+    let r = spu_transfer::transfer_in(s.state, ram, marks, &values[..n]);
     let state = r.state;
     let place = inward_answer(out, s, r.number, r.count, r.irq, r.doubt);
     changed(s, state, place)
@@ -168,7 +168,7 @@ fn outward_into(
     s: Session,
     buffer: &mut [u16],
 ) -> Session {
-    let r = spu::transfer_out(s.state, ram, marks, buffer);
+    let r = spu_transfer::transfer_out(s.state, ram, marks, buffer);
     let state = r.state;
     let place = answers::moved_out(out, s.place, r.number, r.count, r.irq, r.doubt, buffer);
     changed(s, state, place)
@@ -206,7 +206,7 @@ fn tick(
     left: i16,
     right: i16,
 ) -> Session {
-    let r = spu::tick(s.state, ram, marks, left, right);
+    let r = spu_tick::tick(s.state, ram, marks, left, right);
     let state = r.state;
     let place = tick_answer(
         out,
@@ -229,7 +229,7 @@ fn tick_floats(
     left: i16,
     right: i16,
 ) -> Session {
-    let r = spu::tick_floats(s.state, ram, marks, left, right);
+    let r = spu_tick::tick_floats(s.state, ram, marks, left, right);
     let state = r.state;
     let pair = r.pair;
     let place = answers::ticked_floats(
@@ -282,8 +282,8 @@ fn ticks(
 }
 
 fn view(ram: &[u8], out: &mut [u8], s: Session, address: u32) -> Session {
-    let number = spu::view_number(s.state, ram, address);
-    let bytes = spu::block_view(s.state, ram, address);
+    let number = spu_view::view_number(s.state, ram, address);
+    let bytes = spu_view::block_view(s.state, ram, address);
     placed(s, answers::viewed(out, s.place, number, bytes))
 }
 
@@ -455,7 +455,7 @@ fn all_lines(ram: &mut [u8], marks: &mut [u8], out: &mut [u8], s: Session) -> Se
 }
 
 fn begun(bench: bool, size: u32, place: usize) -> Session {
-    let m = spu::make(size);
+    let m = spu_registers::make(size);
     let state = m.state;
     Session {
         bench,

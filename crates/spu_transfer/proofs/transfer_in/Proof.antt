@@ -1,0 +1,83 @@
+use borrow.Author.Needs.{needs}
+use lib.ListN.{length}
+use Rattle.chip.proofs.Tests.{ok-transfer}
+use Rattle.spu.specs.Step.{notInward}
+use Rattle.spu_transfer.proofs.Transfers.{move-by, move-fits, in-no, in-yes}
+use Rattle.spu.proofs.Lent.{lent-ok, lent-some, lent-all}
+use Rattle.spu_transfer.proofs.transfer_in.Statement.{statement}
+use Rattle.spu_transfer.proofs.transfer_in.Tie as tie
+
+not-inward-requires : tie.Need-not-inward-requires
+not-inward-requires c κs = search needs
+
+transfer-number-requires : tie.Need-transfer-number-requires
+transfer-number-requires c κs = search needs
+
+refused-requires : tie.Need-refused-requires
+refused-requires c κs = search needs
+
+returns : tie.Need-returns
+returns c =
+    let a = c .before in
+    let b = a .before in
+    let d = b .before in
+    let e = d .before .before .before .before in
+    in-no _ _ _ _ (move-by (e .args .s) _ _ (length (e .args .values .now)) (notInward (e .args .s)) (d .not-inward .ensures) (b .transfer-number .ensures)) (a .if1 .taken) (c .refused .ensures)
+
+cast-count : tie.Need-cast-count
+cast-count c =
+    let a = c .before in
+    let b = a .before .before .before .before .before in
+    move-fits (b .args .s) _ _ _ _ (a .transfer-number .ensures) (c .if1 .left)
+
+watch-requires : tie.Need-watch-requires
+watch-requires c κs =
+    let a = c .before in
+    let b = a .before in
+    let d = b .before .before .before .before in
+    lent-some (d .args .s) _ _ _ (a .transfer-number .ensures) (c .if1 .left)
+
+inward-requires : tie.Need-inward-requires
+inward-requires c κs =
+    let a = c .before .before .before in
+    let b = a .before in
+    let d = b .before in
+    let e = d .before .before .before .before in
+    let u = b .transfer-number .ensures in
+    let z = a .if1 .left in
+    (lent-all (e .args .s) _ _ _ u z, ok-transfer _ (lent-ok (e .args .s) _ _ _ u z) .below)
+
+accepted-requires : tie.Need-accepted-requires
+accepted-requires c κs = search needs
+
+same-length : tie.Need-same-length
+same-length c = search needs
+
+same-length-2 : tie.Need-same-length-2
+same-length-2 c = search needs
+
+returns-2 : tie.Need-returns-2
+returns-2 c =
+    let a = c .before .before .before .before .before in
+    let b = a .before .before .before in
+    let d = b .before in
+    let e = d .before in
+    let f = e .before in
+    let g = f .before .before .before .before in
+    in-yes _ _ _ _ (move-by (g .args .s) _ _ (length (g .args .values .now)) (notInward (g .args .s)) (f .not-inward .ensures) (e .transfer-number .ensures)) (d .if1 .left) (b .watch .ensures) (a .inward .ensures) (c .accepted .ensures)
+
+pub transfer-in-spec : {M : Type 1} → statement M
+transfer-in-spec =
+    tie.close
+    (tie.spec
+    not-inward-requires
+    transfer-number-requires
+    refused-requires
+    returns
+    cast-count
+    watch-requires
+    inward-requires
+    accepted-requires
+    same-length
+    same-length-2
+    returns-2)
