@@ -81,10 +81,10 @@ pub fn run(s: State, ram: &mut [u8], marks: &mut [u8], cd: &[i16], out: &mut [i1
         }
         let set = voices::settings_by(&s.regs, pmon, non, n);
         let here = voices[n];
-        let m = voice::glide(&table, here, set, below, g.noise.level);
+        let m = voice_tick::glide(&table, here, set, below, g.noise.level);
         if !x.playing.loaded | (27 < m.target) {
             let v = voices[n];
-            let t = voice::tick(
+            let t = voice_tick::tick(
                 &table,
                 v,
                 n as u8,

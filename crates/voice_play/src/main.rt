@@ -243,7 +243,7 @@ fn tick(
     requires { ⌜ (now table ≡ factors) × Lent 0x10000 (now ram) (now marks) × InRange 0x10000 v ⌝ }
     ensures { λ r. ⌜ InRange 0x10000 (r .voice) ⌝ }
 {
-    let r = voice::tick(table, v, 0, SIZE, s, below(t), noise(t), ram, marks, w);
+    let r = voice_tick::tick(table, v, 0, SIZE, s, below(t), noise(t), ram, marks, w);
     let voice = r.voice;
     let watch = r.watch;
     print_tick(r.amplitude, voice.envelope.level, voice.ended, watch.doubt);
