@@ -125,7 +125,7 @@ fn fetch(
     requires { ⌜ Lent (area .size) (now ram) (now marks) × AreaIn area × (bytes < 0x80000) × (back < 0x80000) ⌝ }
     ensures { λ r. ⌜ Does (fetching area t (pos bytes -ℤ pos back)) (memOf (now (ram .entry)) (now (marks .entry)) w) (r .value) (memOf (now (ram .entry)) (now (marks .entry)) (r .watch)) ⌝ }
 {
-    let got = soundram::read(
+    let got = access::read(
         ram,
         marks,
         who(t.right),
@@ -151,7 +151,7 @@ fn store(
     ensures { λ r. ⌜ Does (storing area t (pos bytes) x) (memOf (now (ram .entry)) (now (marks .entry)) w) tt (memOf (now (ram .exit)) (now (marks .exit)) r) ⌝ }
 {
     if t.writes {
-        return soundram::write(ram, marks, address(area, bytes, 0), fixed::to_bits(x), w);
+        return access::write(ram, marks, address(area, bytes, 0), fixed::to_bits(x), w);
     }
     w
 }

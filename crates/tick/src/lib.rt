@@ -129,7 +129,7 @@ fn capture_at(
     requires { ⌜ Lent size (now ram) (now marks) × (area < 0x1000) × (place < 0x400) ⌝ }
     ensures { λ r. ⌜ Does (captureAt area place x) (memOf (now (ram .entry)) (now (marks .entry)) w) tt (memOf (now (ram .exit)) (now (marks .exit)) r) ⌝ }
 {
-    soundram::write(
+    access::write(
         ram,
         marks,
         ByteAddress(area + place as u32),

@@ -17,7 +17,7 @@ fn put(ram: &mut [u8], marks: &mut [u8], size: u32, value: u16, m: Moved) -> Mov
     requires { ⌜ Lent size (now ram) (now marks) × (m .address .0 < size) ⌝ }
     ensures { λ r. ⌜ Does (putOne size value (m .address)) (memOf (now (ram .entry)) (now (marks .entry)) (m .watch)) (r .address) (memOf (now (ram .exit)) (now (marks .exit)) (r .watch)) × (r .address .0 < size) ⌝ }
 {
-    let watch = soundram::write(ram, marks, m.address, value, m.watch);
+    let watch = access::write(ram, marks, m.address, value, m.watch);
     let address = soundram::forward(size, m.address, 2);
     Moved { address, watch }
 }
@@ -59,7 +59,7 @@ pub fn outward(
     let mut address = a;
     let mut watch = w;
     for i in 0..out.len() {
-        let got = soundram::read(ram, marks, Reader::Transfer, true, address, watch);
+        let got = access::read(ram, marks, Reader::Transfer, true, address, watch);
         out[i] = got.value;
         let next = got.watch;
         watch = next;

@@ -128,7 +128,7 @@ fn put_block(ram: &mut [u8], marks: &mut [u8], k: usize)
     let mut x = SEEDS[k];
     for i in 0..8u32 {
         let at = soundram::forward(SIZE, a, i * 2);
-        soundram::write(ram, marks, at, halfword(low, high), unwatched());
+        access::write(ram, marks, at, halfword(low, high), unwatched());
         low = x;
         high = after(low);
         x = after(high);

@@ -1,7 +1,7 @@
 use borrow.Author.Needs.{needs}
 use Rattle.soundram.proofs.Programs.{does-put}
-use Rattle.soundram.proofs.write.Statement.{statement}
-use Rattle.soundram.proofs.write.Tie as tie
+use Rattle.access.proofs.write.Statement.{statement}
+use Rattle.access.proofs.write.Tie as tie
 
 put-half-requires : tie.Need-put-half-requires
 put-half-requires c κs = search needs

@@ -1,7 +1,7 @@
 use borrow.Author.Needs.{needs}
 use Rattle.soundram.specs.Memory.{half}
-use Rattle.soundram.proofs.half_at.Statement.{statement}
-use Rattle.soundram.proofs.half_at.Tie as tie
+use Rattle.access.proofs.half_at.Statement.{statement}
+use Rattle.access.proofs.half_at.Tie as tie
 
 mul-i : tie.Need-mul-i
 mul-i c = search needs

@@ -1,7 +1,7 @@
 use borrow.Author.Needs.{needs}
 use Rattle.soundram.proofs.Programs.{does-get}
-use Rattle.soundram.proofs.read.Statement.{statement}
-use Rattle.soundram.proofs.read.Tie as tie
+use Rattle.access.proofs.read.Statement.{statement}
+use Rattle.access.proofs.read.Tie as tie
 
 half-at-requires : tie.Need-half-at-requires
 half-at-requires c κs = search needs

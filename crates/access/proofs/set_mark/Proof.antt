@@ -1,8 +1,8 @@
 use Prim.Native.Nat.{_/_}
 use borrow.Author.Needs.{needs}
 use Rattle.soundram.proofs.Halfwords.{mark-old, mark-new, mark-fits}
-use Rattle.soundram.proofs.set_mark.Statement.{statement}
-use Rattle.soundram.proofs.set_mark.Tie as tie
+use Rattle.access.proofs.set_mark.Statement.{statement}
+use Rattle.access.proofs.set_mark.Tie as tie
 
 cast-i : tie.Need-cast-i
 cast-i c = search needs

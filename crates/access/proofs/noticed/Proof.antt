@@ -1,6 +1,6 @@
 use borrow.Author.Needs.{needs}
-use Rattle.soundram.proofs.noticed.Statement.{statement}
-use Rattle.soundram.proofs.noticed.Tie as tie
+use Rattle.access.proofs.noticed.Statement.{statement}
+use Rattle.access.proofs.noticed.Tie as tie
 
 returns : tie.Need-returns
 returns c = search needs

@@ -1,8 +1,8 @@
 use mathlib.Core.Path.{refl}
 use borrow.Author.Needs.{needs}
 use Rattle.soundram.specs.Memory.{putHalf}
-use Rattle.soundram.proofs.put_half.Statement.{statement}
-use Rattle.soundram.proofs.put_half.Tie as tie
+use Rattle.access.proofs.put_half.Statement.{statement}
+use Rattle.access.proofs.put_half.Tie as tie
 
 mul-i : tie.Need-mul-i
 mul-i c = search needs

@@ -1,8 +1,8 @@
 use mathlib.Core.Path.{refl}
 use borrow.Author.Needs.{needs}
 use Rattle.soundram.specs.Memory.{marked}
-use Rattle.soundram.proofs.is_marked.Statement.{statement}
-use Rattle.soundram.proofs.is_marked.Tie as tie
+use Rattle.access.proofs.is_marked.Statement.{statement}
+use Rattle.access.proofs.is_marked.Tie as tie
 
 cast-i : tie.Need-cast-i
 cast-i c = search needs

@@ -3,12 +3,12 @@ use Prim.Native.Nat.{_*_, _-_, _≤_}
 use native.Mathlib.Omega.{arith}
 use borrow.Author.Needs.{needs}
 use lib.ListN.{length, take}
 use Rattle.soundram.specs.Program.{Does, memOf, bytesFrom}
 use Rattle.soundram.proofs.Addresses.{forward-below}
 use Rattle.soundram.proofs.Programs.{within}
 use Rattle.soundram.proofs.Blocks.{bytes-none, bytes-more, bytes-end}
-use Rattle.soundram.proofs.load.Statement.{statement}
-use Rattle.soundram.proofs.load.Tie as tie
+use Rattle.access.proofs.load.Statement.{statement}
+use Rattle.access.proofs.load.Tie as tie
 
 abbrev Inv-loop : tie.InvT-loop
 Inv-loop ram marks who size a bytes₀ watch₀ i₀ bytes watch i = (i ≤ 8) × (length bytes ≡ 16) × Does (bytesFrom who size a i) (memOf ram marks watch₀) (take (i * 2) bytes) (memOf ram marks watch)
