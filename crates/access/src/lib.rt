@@ -113,7 +113,14 @@ pub fn load(ram: &[u8], marks: &[u8], who: Reader, size: u32, a: ByteAddress, w:
     let mut watch = w;
     for i in 0..8usize {
         let k = i * 2;
-        let got = read(ram, marks, who, true, soundram::forward(size, a, k as u32), watch);
+        let got = read(
+            ram,
+            marks,
+            who,
+            true,
+            soundram::forward(size, a, k as u32),
+            watch,
+        );
         bytes[k] = (got.value % 256) as u8;
         bytes[k + 1] = (got.value / 256) as u8;
         let next = got.watch;

@@ -1,0 +1,16 @@
+use borrow.Author.Needs.{needs}
+use Rattle.image_store.proofs.Puts.{put-one}
+use Rattle.image_store.proofs.put_byte.Statement.{statement}
+use Rattle.image_store.proofs.put_byte.Tie as tie
+
+slice-write-out : tie.Need-slice-write-out
+slice-write-out c = search needs
+
+same-length : tie.Need-same-length
+same-length c = search needs
+
+returns : tie.Need-returns
+returns c = put-one _ _ _ (search needs)
+
+pub put-byte-spec : {M : Type 1} → statement M
+put-byte-spec = tie.close (tie.spec slice-write-out same-length returns)
