@@ -85,7 +85,7 @@ pub fn read(s: State, offset: u32) -> Reading
 {
     let number = read_number(s, offset);
     if number == 0 {
-        let value = ports::read(s, offset);
+        let value = ports_read::read(s, offset);
         return Reading { number, value };
     }
     Reading { number, value: 0 }

@@ -1,8 +1,8 @@
 use borrow.Author.Needs.{needs}
 use mir.Facts.{toZ-ofZ}
-use Rattle.ports.proofs.Parts.{doubled-as}
-use Rattle.ports.proofs.doubled.Statement.{statement}
-use Rattle.ports.proofs.doubled.Tie as tie
+use Rattle.ports_read.proofs.Values.{doubled-as}
+use Rattle.ports_read.proofs.doubled.Statement.{statement}
+use Rattle.ports_read.proofs.doubled.Tie as tie
 
 at-requires : tie.Need-at-requires
 at-requires c κs = search needs

@@ -1,7 +1,8 @@
 use borrow.Author.Needs.{needs}
-use Rattle.ports.proofs.Parts.{listed-below, of-voice, read-level, read-repeat, read-ends, read-more-ends, read-status, read-left, read-right, read-kept}
-use Rattle.ports.proofs.read.Statement.{statement}
-use Rattle.ports.proofs.read.Tie as tie
+use Rattle.ports.proofs.Parts.{listed-below, of-voice}
+use Rattle.ports_read.proofs.Values.{read-level, read-repeat, read-ends, read-more-ends, read-status, read-left, read-right, read-kept}
+use Rattle.ports_read.proofs.read.Statement.{statement}
+use Rattle.ports_read.proofs.read.Tie as tie
 
 voice-at-requires : tie.Need-voice-at-requires
 voice-at-requires c κs = of-voice 0xC _ (c .if1 .taken)

@@ -1,7 +1,7 @@
 use borrow.Author.Needs.{needs}
-use Rattle.ports.proofs.Parts.{flag-set}
-use Rattle.ports.proofs.end_flag.Statement.{statement}
-use Rattle.ports.proofs.end_flag.Tie as tie
+use Rattle.ports_read.proofs.Values.{flag-set}
+use Rattle.ports_read.proofs.end_flag.Statement.{statement}
+use Rattle.ports_read.proofs.end_flag.Tie as tie
 
 cast-result : tie.Need-cast-result
 cast-result c = search needs

@@ -1,7 +1,7 @@
 use borrow.Author.Needs.{needs}
-use Rattle.ports.proofs.Parts.{status-as}
-use Rattle.ports.proofs.status.Statement.{statement}
-use Rattle.ports.proofs.status.Tie as tie
+use Rattle.ports_read.proofs.Values.{status-as}
+use Rattle.ports_read.proofs.status.Statement.{statement}
+use Rattle.ports_read.proofs.status.Tie as tie
 
 weight-requires : tie.Need-weight-requires
 weight-requires c κs = search needs

@@ -3,10 +3,10 @@ use Prim.Native.Nat.{_-_, _≤_}
 use native.Mathlib.Omega.{arith}
 use borrow.Author.Needs.{needs}
 use Rattle.chip.proofs.Parts.{to-end}
 use Rattle.ports.specs.Registers.{endFlags}
-use Rattle.ports.proofs.Parts.{flags-none, flags-more, flags-fit}
-use Rattle.ports.proofs.end_flags.Statement.{statement}
-use Rattle.ports.proofs.end_flags.Tie as tie
+use Rattle.ports_read.proofs.Values.{flags-none, flags-more, flags-fit}
+use Rattle.ports_read.proofs.end_flags.Statement.{statement}
+use Rattle.ports_read.proofs.end_flags.Tie as tie
 
 abbrev Inv-loop : tie.InvT-loop
 Inv-loop first count voices flags₀ k₀ flags k = (k ≤ count) × (flags ≡ endFlags voices first k)
