@@ -92,7 +92,7 @@ fn voice_ok(size: u32, v: Voice) -> bool
     let phase = e.phase;
     (v.envelope.level <= 0x7FFF)
         & ((v.envelope.wait <= 0x400000)
-            & ((!envelope::is_active(phase) | (1 <= v.envelope.wait))
+            & ((!envelope_tick::is_active(phase) | (1 <= v.envelope.wait))
                 & ((v.position.counter < 0x1000)
                     & ((v.position.index <= 27)
                         & ((v.source.address.0 % 8 == 0) & (v.source.address.0 < size))))))

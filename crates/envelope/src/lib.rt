@@ -1,11 +1,10 @@
-// The envelope generator: the level of one voice over time.
+// The envelope generator: the level of one voice over time. Here are its rates, and how far and how often each moves the level.
 ghost use mathlib.Core.Path.{_≡_};
-ghost use mathlib.Core.Bool.{cond, false, _&&_};
+ghost use mathlib.Core.Bool.{cond, false};
 ghost use Prim.Native.Nat.{_-_, _^_, _<_};
-ghost use lib.Dec.{ltb};
 ghost use lib.IntN.{pos};
 ghost use Rattle.fixed.specs.Range.{In};
-ghost use Rattle.envelope.specs.Adsr.{rise, fall, rateOf, sustainLevel, cyclesOf, stepOf, clamped, active, enteredOf, phaseAfter, movedOf, tickedOf};
+ghost use Rattle.envelope.specs.Adsr.{rise, fall, rateOf, cyclesOf, stepOf, clamped};
 
 // The first variant is the one of a fresh voice.
 pub enum Phase {
@@ -69,7 +68,7 @@ fn no_steps() -> Rate
 }
 
 // The rate of a phase, out of the two ADSR halfwords.
-fn rate_of(phase: Phase, low: u16, high: u16) -> Rate
+pub fn rate_of(phase: Phase, low: u16, high: u16) -> Rate
     ensures { λ r. ⌜ r ≡ rateOf phase low high ⌝ }
 {
     match phase {
@@ -101,7 +100,7 @@ fn power(a: u32, b: u32) -> u32
 }
 
 // The ticks from one step to the next.
-fn cycles(r: Rate, level: u16) -> u32
+pub fn cycles(r: Rate, level: u16) -> u32
     requires { ⌜ r .shift < 32 ⌝ }
     ensures { λ n. ⌜ n ≡ cyclesOf r level ⌝ }
 {
@@ -114,7 +113,7 @@ fn cycles(r: Rate, level: u16) -> u32
 }
 
 // How far a step moves the level. The shift rounds down, as the paper asks; a division would not.
-fn step(r: Rate, level: u16) -> i32
+pub fn step(r: Rate, level: u16) -> i32
     requires { ⌜ In 8 7 (r .value) ⌝ }
     ensures { λ z. ⌜ z ≡ stepOf r level ⌝ }
 {
@@ -127,7 +126,7 @@ fn step(r: Rate, level: u16) -> i32
 }
 
 // A level, held to 0..7FFFh.
-fn clamp(x: i32) -> u16
+pub fn clamp(x: i32) -> u16
     ensures { λ r. ⌜ r ≡ clamped x ⌝ }
 {
     if x < 0 {
@@ -137,99 +136,4 @@ fn clamp(x: i32) -> u16
         return 0x7FFF;
     }
     x as u16
-}
-
-// Whether the phase has steps.
-pub fn is_active(phase: Phase) -> bool
-    ensures { λ r. ⌜ r ≡ active phase ⌝ }
-{
-    match phase {
-        Phase::Idle => false,
-        Phase::Attack => true,
-        Phase::Decay => true,
-        Phase::Sustain => true,
-        Phase::Release => true,
-        Phase::Off => false,
-    }
-}
-
-// The level at which Decay ends.
-fn sustain_level(low: u16) -> u16
-    ensures { λ r. ⌜ r ≡ sustainLevel low ⌝ }
-{
-    (low % 16 + 1) * 0x800
-}
-
-// One of two phases.
-fn pick(test: bool, yes: Phase, no: Phase) -> Phase
-    ensures { λ r. ⌜ r ≡ cond test yes no ⌝ }
-{
-    if test { yes } else { no }
-}
-
-// The phase after a step that led to the level.
-fn phase_after(phase: Phase, level: u16, low: u16) -> Phase
-    ensures { λ r. ⌜ r ≡ phaseAfter phase level low ⌝ }
-{
-    match phase {
-        Phase::Idle => Phase::Idle,
-        Phase::Attack => pick(level == 0x7FFF, Phase::Decay, Phase::Attack),
-        Phase::Decay => pick(level <= sustain_level(low), Phase::Sustain, Phase::Decay),
-        Phase::Sustain => Phase::Sustain,
-        Phase::Release => pick(level == 0, Phase::Off, Phase::Release),
-        Phase::Off => Phase::Off,
-    }
-}
-
-// The envelope as a phase begins, and after each of its steps.
-pub fn enter(phase: Phase, level: u16, low: u16, high: u16) -> Envelope
-    ensures { λ r. ⌜ r ≡ enteredOf phase level low high ⌝ }
-{
-    if is_active(phase) {
-        let wait = cycles(rate_of(phase, low, high), level);
-        Envelope { phase, level, wait }
-    } else {
-        Envelope {
-            phase,
-            level,
-            wait: 0,
-        }
-    }
-}
-
-// One step.
-fn moved(phase: Phase, level: u16, low: u16, high: u16) -> Envelope
-    ensures { λ r. ⌜ r ≡ movedOf phase level low high ⌝ }
-{
-    let rate = rate_of(phase, low, high);
-    let next = clamp(level as i32 + step(rate, level));
-    enter(phase_after(phase, next, low), next, low, high)
-}
-
-// Whether the next tick of an envelope only waits.
-pub fn waits(phase: Phase, wait: u32) -> bool
-    ensures { λ r. ⌜ r ≡ (active phase && ltb 1 wait) ⌝ }
-{
-    is_active(phase) & (1 < wait)
-}
-
-// One tick: most only wait, and look at no rate.
-pub fn tick(e: Envelope, low: u16, high: u16) -> Envelope
-    ensures { λ r. ⌜ r ≡ tickedOf e low high ⌝ }
-{
-    let phase = e.phase;
-    if !is_active(phase) {
-        return e;
-    }
-    let level = e.level;
-    let wait = e.wait;
-    if 1 < wait {
-        Envelope {
-            phase,
-            level,
-            wait: wait - 1,
-        }
-    } else {
-        moved(phase, level, low, high)
-    }
 }

@@ -113,14 +113,14 @@ pub fn run(s: State, ram: &mut [u8], marks: &mut [u8], cd: &[i16], out: &mut [i1
         below = m.amplitude;
         amplitudes[n] = below;
         let wait = x.envelope.wait;
-        if envelope::waits(phase, wait) {
+        if envelope_tick::waits(phase, wait) {
             let left = wait - 1;
             y.envelope.wait = left;
             voices[n] = y;
             n = n + 1;
             continue;
         }
-        let stepped = envelope::tick(e, set.low, set.high);
+        let stepped = envelope_tick::tick(e, set.low, set.high);
         y.envelope = stepped;
         voices[n] = y;
         n = n + 1;

@@ -77,7 +77,7 @@ pub fn key_on(size: u32, start: UnitAddress, low: u16, high: u16) -> Voice
     ensures { λ r. ⌜ r ≡ keyedOn size start low high ⌝ }
 {
     let mut v = Voice::fresh();
-    let envelope = envelope::enter(Phase::Attack, v.envelope.level, low, high);
+    let envelope = envelope_tick::enter(Phase::Attack, v.envelope.level, low, high);
     let source = Source {
         address: soundram::address_of(size, start),
         repeat: start,
@@ -107,7 +107,7 @@ pub fn key_off(v: Voice, low: u16, high: u16) -> Voice
     let phase = e.phase;
     if goes_off(phase) {
         let mut w = v;
-        w.envelope = envelope::enter(Phase::Release, e.level, low, high);
+        w.envelope = envelope_tick::enter(Phase::Release, e.level, low, high);
         return w;
     }
     v

@@ -79,7 +79,7 @@ fn step(v: Voice, s: Settings, below: i16) -> Stepped
     requires { ⌜ (v .position .counter < 0x1000) × (v .position .index ≤ 27) ⌝ }
     ensures { λ r. ⌜ (r .voice ≡ steppedOf s below v) × (r .target ≡ targetOf s below v) × (r .target < 32) ⌝ }
 {
-    let envelope = envelope::tick(v.envelope, s.low, s.high);
+    let envelope = envelope_tick::tick(v.envelope, s.low, s.high);
     let m = pitch::advance(v.position.counter, pitch::step(s.pitch, s.modulated, below));
     let index = v.position.index;
     let position = Position {

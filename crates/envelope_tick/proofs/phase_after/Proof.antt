@@ -1,8 +1,8 @@
 use borrow.Author.Needs.{needs}
 use Rattle.envelope.specs.Adsr.{phaseAfter}
 use Rattle.envelope.proofs.Phases.{phase-at, decay-at}
-use Rattle.envelope.proofs.phase_after.Statement.{statement}
-use Rattle.envelope.proofs.phase_after.Tie as tie
+use Rattle.envelope_tick.proofs.phase_after.Statement.{statement}
+use Rattle.envelope_tick.proofs.phase_after.Tie as tie
 
 enum-told : tie.Need-enum-told
 enum-told c = search needs

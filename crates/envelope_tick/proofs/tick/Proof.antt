@@ -1,7 +1,7 @@
 use borrow.Author.Needs.{needs}
 use Rattle.envelope.proofs.Ticks.{ticked-inactive, ticked-waits, ticked-moves}
-use Rattle.envelope.proofs.tick.Statement.{statement}
-use Rattle.envelope.proofs.tick.Tie as tie
+use Rattle.envelope_tick.proofs.tick.Statement.{statement}
+use Rattle.envelope_tick.proofs.tick.Tie as tie
 
 is-active-requires : tie.Need-is-active-requires
 is-active-requires c κs = search needs

@@ -1,8 +1,8 @@
 use borrow.Author.Needs.{needs}
 use Rattle.envelope.proofs.Rates.{rate-shift}
 use Rattle.envelope.proofs.Ticks.{entered-active, entered-inactive}
-use Rattle.envelope.proofs.enter.Statement.{statement}
-use Rattle.envelope.proofs.enter.Tie as tie
+use Rattle.envelope_tick.proofs.enter.Statement.{statement}
+use Rattle.envelope_tick.proofs.enter.Tie as tie
 
 is-active-requires : tie.Need-is-active-requires
 is-active-requires c κs = search needs

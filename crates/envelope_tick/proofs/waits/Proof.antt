@@ -1,6 +1,6 @@
 use borrow.Author.Needs.{needs}
-use Rattle.envelope.proofs.waits.Statement.{statement}
-use Rattle.envelope.proofs.waits.Tie as tie
+use Rattle.envelope_tick.proofs.waits.Statement.{statement}
+use Rattle.envelope_tick.proofs.waits.Tie as tie
 
 is-active-requires : tie.Need-is-active-requires
 is-active-requires c κs = search needs

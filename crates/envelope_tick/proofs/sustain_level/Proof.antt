@@ -1,8 +1,8 @@
 use native.Mathlib.Nat.{div-one}
 use borrow.Author.Needs.{needs}
 use Rattle.envelope.specs.Adsr.{sustainLevel}
-use Rattle.envelope.proofs.sustain_level.Statement.{statement}
-use Rattle.envelope.proofs.sustain_level.Tie as tie
+use Rattle.envelope_tick.proofs.sustain_level.Statement.{statement}
+use Rattle.envelope_tick.proofs.sustain_level.Tie as tie
 
 add-result : tie.Need-add-result
 add-result c = search needs

@@ -1,6 +1,6 @@
 use borrow.Author.Needs.{needs}
-use Rattle.envelope.proofs.is_active.Statement.{statement}
-use Rattle.envelope.proofs.is_active.Tie as tie
+use Rattle.envelope_tick.proofs.is_active.Statement.{statement}
+use Rattle.envelope_tick.proofs.is_active.Tie as tie
 
 enum-told : tie.Need-enum-told
 enum-told c = search needs

@@ -3,11 +3,11 @@ use borrow.Author.Needs.{needs}
 use mir.Syntax.{w32}
 use Rattle.fixed.specs.Range.{In}
 use Rattle.fixed.proofs.Number.{Num, nat, res, add, need, hold, is}
 use Rattle.envelope.proofs.Rates.{rate-value}
 use Rattle.envelope.proofs.Steps.{step-in}
 use Rattle.envelope.proofs.Ticks.{moved-as}
-use Rattle.envelope.proofs.moved.Statement.{statement}
-use Rattle.envelope.proofs.moved.Tie as tie
+use Rattle.envelope_tick.proofs.moved.Statement.{statement}
+use Rattle.envelope_tick.proofs.moved.Tie as tie
 
 value : (c : tie.After-rate-of) → In 8 7 (c .rate-of .result .value)
 value c = search rate-value
