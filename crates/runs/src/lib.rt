@@ -52,7 +52,7 @@ pub fn run(s: State, ram: &mut [u8], marks: &mut [u8], cd: &[i16], out: &mut [i1
     let pmon = voices::modulation(&s.regs);
     let non = registers::flags(&s.regs, 0x194);
     let count = out.len() / 2;
-    let mut g = tick::begin(s, count);
+    let mut g = tick_end::begin(s, count);
     let mut watch = g.watch;
     let mut voices = s.voices;
     let mut amplitudes = [0i16; 24];
@@ -61,7 +61,18 @@ pub fn run(s: State, ram: &mut [u8], marks: &mut [u8], cd: &[i16], out: &mut [i1
     let mut k = 0usize;
     while k < count {
         if 24 <= n {
-            let next = tick::finish(&s.regs, size, g, amplitudes, ram, marks, cd, out, k, watch);
+            let next = tick_end::finish(
+                &s.regs,
+                size,
+                g,
+                amplitudes,
+                ram,
+                marks,
+                cd,
+                out,
+                k,
+                watch,
+            );
             g = next;
             let seen = next.watch;
             watch = seen;

@@ -1,8 +1,7 @@
-// Ticks of the whole chip: control, noise, voices, mix, capture, reverb.
+// A tick of the whole chip, and of its parts the mix, the capture, and what enters the reverb.
 ghost use mathlib.Core.Path.{_≡_};
 ghost use mathlib.Core.Bool.{cond};
-ghost use Prim.Native.Nat.{_+_, _*_, _<_};
-ghost use lib.ListN.{length};
+ghost use Prim.Native.Nat.{_+_, _<_};
 ghost use lib.IntN.{pos, _+ℤ_};
 ghost use Rattle.fixed.specs.Range.{In};
 ghost use Rattle.fixed.specs.Arithmetic.{saturated};
@@ -10,19 +9,13 @@ ghost use Rattle.fixed.specs.Bits.{bit};
 ghost use Rattle.registers.specs.Map.{registerAt};
 ghost use Rattle.soundram.specs.Address.{Lent};
 ghost use Rattle.soundram.specs.Program.{Does, memOf};
-ghost use Rattle.voices.specs.Voices.{SumsIn, mixedOf};
-ghost use Rattle.chip.specs.Range.{CaptureIn, PlaceIn};
-ghost use Rattle.chip.specs.State.{baseAt};
-ghost use Rattle.tick.specs.Tick.{cdOf, mixOf, pairOf, captureOf, captureBoth, captureAt, turningOf, inputOf, enteringOf, placeAfter, heldOf, reverbAfter, reverbOf, closeOf};
-ghost use Rattle.tick.specs.Run.{restOf, beginOf, Finishes};
+ghost use Rattle.voices.specs.Voices.{SumsIn};
+ghost use Rattle.tick.specs.Tick.{cdOf, mixOf, pairOf, captureOf, captureBoth, captureAt, turningOf, inputOf, enteringOf};
 use chip::Held;
 use chip::Reverb;
-use chip::State;
 use noise::Noise;
-use reverb::Area;
 use reverb::Turning;
 use soundram::ByteAddress;
-use soundram::UnitAddress;
 use soundram::Watch;
 use voices::Captured;
 use voices::Sums;
@@ -42,13 +35,6 @@ pub struct Rest {
     pub tick: u32,
 }
 
-// The end of a tick.
-struct Closed {
-    rest: Rest,
-    pair: Pair,
-    watch: Watch,
-}
-
 // Where a run is: what this tick found, its noise, and what it watched from its start on; the ticks that reported.
 pub struct Going {
     pub rest: Rest,
@@ -56,12 +42,6 @@ pub struct Going {
     pub watch: Watch,
     pub irq: usize,
     pub doubt: usize,
-}
-
-// The reverb after its turn.
-struct Turned {
-    reverb: Reverb,
-    watch: Watch,
 }
 
 // Bit k of SPUCNT.
@@ -105,7 +85,7 @@ fn mix(regs: &[u16; 256], total: i32, held: i16, cd: i32, main: usize) -> i16
     fixed::saturate(fixed::product(sum as i32, volume))
 }
 
-fn mixed(regs: &[u16; 256], held: Held, sums: Sums, left: i16, right: i16) -> Pair
+pub fn mixed(regs: &[u16; 256], held: Held, sums: Sums, left: i16, right: i16) -> Pair
     ensures { λ r. ⌜ r ≡ pairOf (now (regs .entry)) held sums left right ⌝ }
 {
     let dry = sums.dry;
@@ -156,7 +136,7 @@ fn capture_both(
     capture_at(ram, marks, size, area + 0x400, place, y, first)
 }
 
-fn capture(
+pub fn capture(
     ram: &mut [u8],
     marks: &mut [u8],
     size: u32,
@@ -175,7 +155,7 @@ fn capture(
 
 // ---- reverb
 
-fn turning(regs: &[u16; 256], right: bool) -> Turning
+pub fn turning(regs: &[u16; 256], right: bool) -> Turning
     ensures { λ r. ⌜ r ≡ turningOf (now (regs .entry)) right ⌝ }
 {
     let on = control(regs, 7);
@@ -198,7 +178,7 @@ fn input(regs: &[u16; 256], wet: i32, cd: i32) -> i16
 }
 
 // What enters the reverb, of the turn's side.
-fn entering(regs: &[u16; 256], rightward: bool, sums: Sums, left: i16, right: i16) -> i16
+pub fn entering(regs: &[u16; 256], rightward: bool, sums: Sums, left: i16, right: i16) -> i16
     requires { ⌜ SumsIn 24 sums ⌝ }
     ensures { λ r. ⌜ r ≡ enteringOf (now (regs .entry)) rightward sums left right ⌝ }
 {
@@ -207,208 +187,4 @@ fn entering(regs: &[u16; 256], rightward: bool, sums: Sums, left: i16, right: i1
         return input(regs, wet.right, cd(regs, 0x1B2, right));
     }
     input(regs, wet.left, cd(regs, 0x1B0, left))
-}
-
-fn place_after(size: u32, base: u32, right: bool, place: u32) -> u32
-    requires { ⌜ place < 0x80000 ⌝ }
-    ensures { λ r. ⌜ r ≡ placeAfter size base right place ⌝ }
-{
-    if !right {
-        return place;
-    }
-    if place + 2 == size {
-        return base;
-    }
-    place + 2
-}
-
-fn hold(right: bool, held: Held, out: i16) -> Held
-    ensures { λ r. ⌜ r ≡ heldOf right held out ⌝ }
-{
-    if right {
-        return Held {
-            left: held.left,
-            right: out,
-        };
-    }
-    Held {
-        left: out,
-        right: held.right,
-    }
-}
-
-fn after(size: u32, base: u32, r: Reverb, out: i16) -> Reverb
-    requires { ⌜ r .place .0 < 0x80000 ⌝ }
-    ensures { λ a. ⌜ a ≡ reverbAfter size base r out ⌝ }
-{
-    let held = hold(r.right, r.held, out);
-    Reverb {
-        place: ByteAddress(place_after(size, base, r.right, r.place.0)),
-        right: !r.right,
-        held,
-    }
-}
-
-// The turn of this tick.
-fn turn(
-    regs: &[u16; 256],
-    size: u32,
-    r: Reverb,
-    sums: Sums,
-    left: i16,
-    right: i16,
-    ram: &mut [u8],
-    marks: &mut [u8],
-    w: Watch,
-) -> Turned
-    requires { ⌜ Lent size (now ram) (now marks) × PlaceIn size (baseAt size (now regs) .0) (r .place .0) × SumsIn 24 sums ⌝ }
-    ensures { λ a. ⌜ Does (reverbOf (now (regs .entry)) size r sums left right) (memOf (now (ram .entry)) (now (marks .entry)) w) (a .reverb) (memOf (now (ram .exit)) (now (marks .exit)) (a .watch)) ⌝ }
-{
-    let base = soundram::address_of(size, UnitAddress(registers::at(regs, 0x1A2)));
-    let area = Area {
-        size,
-        base: base.0,
-        place: r.place.0,
-    };
-    let x = entering(regs, r.right, sums, left, right);
-    let out = reverb::turn(regs, ram, marks, area, turning(regs, r.right), x, w);
-    let reverb = after(size, base.0, r, out.value);
-    let watch = out.watch;
-    Turned { reverb, watch }
-}
-
-// ---- the end of a tick
-
-// Once the voices have played, of this tick's noise.
-fn close(
-    regs: &[u16; 256],
-    size: u32,
-    r: Rest,
-    n: Noise,
-    amplitudes: [i16; 24],
-    ram: &mut [u8],
-    marks: &mut [u8],
-    left: i16,
-    right: i16,
-    w: Watch,
-) -> Closed
-    requires { ⌜ Lent size (now ram) (now marks) × CaptureIn (r .capture) × PlaceIn size (baseAt size (now regs) .0) (r .reverb .place .0) ⌝ }
-    ensures { λ c. ⌜ Does (closeOf (now (regs .entry)) size r n (mixedOf (now (regs .entry)) amplitudes 24) left right) (memOf (now (ram .entry)) (now (marks .entry)) w) (record { pair = c .pair; rest = c .rest }) (memOf (now (ram .exit)) (now (marks .exit)) (c .watch)) ⌝ }
-{
-    let sums = voices::mix(regs, amplitudes);
-    let captured = capture(ram, marks, size, r.capture, left, right, sums.captured, w);
-    let t = turn(
-        regs,
-        size,
-        r.reverb,
-        sums,
-        left,
-        right,
-        ram,
-        marks,
-        captured,
-    );
-    let pair = mixed(regs, r.reverb.held, sums, left, right);
-    let noise = n;
-    let reverb = t.reverb;
-    let watch = t.watch;
-    let rest = Rest {
-        noise,
-        applied: registers::at(regs, 0x1AA) % 0x40,
-        capture: (r.capture + 2) % 0x400,
-        reverb,
-        tick: std::num::wrapping_add_u32(r.tick, 1),
-    };
-    Closed { rest, pair, watch }
-}
-
-// ---- a tick in a run
-
-fn rest_of(s: State) -> Rest
-    ensures { λ r. ⌜ r ≡ restOf s ⌝ }
-{
-    let noise = s.noise;
-    let reverb = s.reverb;
-    Rest {
-        noise,
-        applied: s.control.applied,
-        capture: s.capture,
-        reverb,
-        tick: s.tick,
-    }
-}
-
-// Tick k, if it reported, or the one that did before it.
-fn reported(here: bool, k: usize, before: usize) -> usize
-    ensures { λ r. ⌜ r ≡ cond here k before ⌝ }
-{
-    if here {
-        return k;
-    }
-    before
-}
-
-// Tick k ends: its pair goes to the buffer, and the next tick's noise is made.
-pub fn finish(
-    regs: &[u16; 256],
-    size: u32,
-    g: Going,
-    amplitudes: [i16; 24],
-    ram: &mut [u8],
-    marks: &mut [u8],
-    cd: &[i16],
-    out: &mut [i16],
-    k: usize,
-    w: Watch,
-) -> Going
-    requires { ⌜ Lent size (now ram) (now marks) × CaptureIn (g .rest .capture) × PlaceIn size (baseAt size (now regs) .0) (g .rest .reverb .place .0) × (k * 2 + 1 < length (now cd)) × (length (now cd) ≡ length (now out)) ⌝ }
-    ensures { λ r. ⌜ Finishes (now (regs .entry)) size g amplitudes (now (cd .entry)) k (memOf (now (ram .entry)) (now (marks .entry)) w) (now (out .entry)) r (memOf (now (ram .exit)) (now (marks .exit)) (r .watch)) (now (out .exit)) ⌝ }
-{
-    let i = k * 2;
-    let left = cd[i];
-    let right = cd[i + 1];
-    let c = close(
-        regs,
-        size,
-        g.rest,
-        g.noise,
-        amplitudes,
-        ram,
-        marks,
-        left,
-        right,
-        w,
-    );
-    let pair = c.pair;
-    let rest = c.rest;
-    let watch = c.watch;
-    let heard_left = pair.left;
-    let heard_right = pair.right;
-    out[i] = heard_left;
-    out[i + 1] = heard_right;
-    let noise = noise::tick(rest.noise, registers::at(regs, 0x1AA));
-    Going {
-        rest,
-        noise,
-        watch,
-        irq: reported(watch.latch & !g.watch.latch, k, g.irq),
-        doubt: reported(watch.doubt & !g.watch.doubt, k, g.doubt),
-    }
-}
-
-// Before a run of so many ticks.
-pub fn begin(s: State, count: usize) -> Going
-    requires { ⌜ 0 < s .choices .size ⌝ }
-    ensures { λ r. ⌜ r ≡ beginOf s count ⌝ }
-{
-    let rest = rest_of(s);
-    let noise = noise::tick(s.noise, registers::at(&s.regs, 0x1AA));
-    let watch = chip::watch(s);
-    Going {
-        rest,
-        noise,
-        watch,
-        irq: count,
-        doubt: count,
-    }
 }

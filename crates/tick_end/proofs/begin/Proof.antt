@@ -1,6 +1,6 @@
 use borrow.Author.Needs.{needs}
-use Rattle.tick.proofs.begin.Statement.{statement}
-use Rattle.tick.proofs.begin.Tie as tie
+use Rattle.tick_end.proofs.begin.Statement.{statement}
+use Rattle.tick_end.proofs.begin.Tie as tie
 
 rest-of-requires : tie.Need-rest-of-requires
 rest-of-requires c κs = search needs

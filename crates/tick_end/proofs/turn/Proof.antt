@@ -5,9 +5,9 @@ use mir.Val.{toZ, ofZ}
 use mir.Syntax.{w16}
 use mir.Facts.{toZ-ofZ}
 use Rattle.fixed.proofs.Number.{ok, is}
 use Rattle.tick.proofs.Parts.{area-in, turn-does}
-use Rattle.tick.proofs.turn.Statement.{statement}
-use Rattle.tick.proofs.turn.Tie as tie
+use Rattle.tick_end.proofs.turn.Statement.{statement}
+use Rattle.tick_end.proofs.turn.Tie as tie
 
 at-requires : tie.Need-at-requires
 at-requires c κs = search needs

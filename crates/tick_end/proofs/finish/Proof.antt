@@ -3,9 +3,9 @@ use native.Mathlib.Omega.{arith}
 use borrow.Author.Needs.{needs}
 use lib.ListN.{length}
 use Rattle.soundram.proofs.Programs.{does-kept}
 use Rattle.tick.proofs.Parts.{finish-does}
-use Rattle.tick.proofs.finish.Statement.{statement}
-use Rattle.tick.proofs.finish.Tie as tie
+use Rattle.tick_end.proofs.finish.Statement.{statement}
+use Rattle.tick_end.proofs.finish.Tie as tie
 
 mul-i : tie.Need-mul-i
 mul-i c = search needs

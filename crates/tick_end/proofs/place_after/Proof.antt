@@ -1,7 +1,7 @@
 use borrow.Author.Needs.{needs}
 use Rattle.tick.proofs.Parts.{place-stays, place-wraps, place-moves}
-use Rattle.tick.proofs.place_after.Statement.{statement}
-use Rattle.tick.proofs.place_after.Tie as tie
+use Rattle.tick_end.proofs.place_after.Statement.{statement}
+use Rattle.tick_end.proofs.place_after.Tie as tie
 
 returns : tie.Need-returns
 returns c = search place-stays

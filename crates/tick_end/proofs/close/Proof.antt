@@ -2,9 +2,9 @@ use native.Mathlib.Omega.{arith}
 use borrow.Author.Needs.{needs}
 use mir.Facts.{toZ-ofZ}
 use Rattle.soundram.proofs.Programs.{lent-after}
 use Rattle.tick.proofs.Parts.{close-does}
-use Rattle.tick.proofs.close.Statement.{statement}
-use Rattle.tick.proofs.close.Tie as tie
+use Rattle.tick_end.proofs.close.Statement.{statement}
+use Rattle.tick_end.proofs.close.Tie as tie
 
 mix-requires : tie.Need-mix-requires
 mix-requires c κs = search needs

@@ -1,7 +1,7 @@
 use mir.Facts.{toZ-ofZ}
 use Rattle.tick.proofs.Parts.{hold-right, hold-left}
-use Rattle.tick.proofs.hold.Statement.{statement}
-use Rattle.tick.proofs.hold.Tie as tie
+use Rattle.tick_end.proofs.hold.Statement.{statement}
+use Rattle.tick_end.proofs.hold.Tie as tie
 
 returns : tie.Need-returns
 returns c = search (hold-right, toZ-ofZ)

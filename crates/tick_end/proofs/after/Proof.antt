@@ -1,8 +1,8 @@
 use borrow.Author.Needs.{needs}
 use mir.Facts.{toZ-ofZ}
 use Rattle.tick.proofs.Parts.{after-as}
-use Rattle.tick.proofs.after.Statement.{statement}
-use Rattle.tick.proofs.after.Tie as tie
+use Rattle.tick_end.proofs.after.Statement.{statement}
+use Rattle.tick_end.proofs.after.Tie as tie
 
 hold-requires : tie.Need-hold-requires
 hold-requires c κs = search needs
