@@ -1,0 +1,646 @@
+/* test [IMAGES]: tests through the C interface; IMAGES damaged states are tried (20,000 if not given). */
+#include "core.h"
+#include "lent.h"
+#include "wav.h"
+
+#include <stdarg.h>
+#include <stdio.h>
+#include <stdlib.h>
+#include <string.h>
+
+enum { SMALL = 65536, LARGE = 524288, PAIRS = 1000, IMAGES = 20000, MOST_STATE = 3000 };
+
+/* ---- checks and random numbers */
+
+static unsigned long checks, failures;
+
+static void check(bool good, const char *format, ...)
+{
+    checks++;
+    if (good)
+        return;
+    failures++;
+    va_list arguments;
+    va_start(arguments, format);
+    fputs("failed: ", stderr);
+    vfprintf(stderr, format, arguments);
+    fputc('\n', stderr);
+    va_end(arguments);
+}
+
+/* xorshift64*, of a seed that is not 0 */
+static uint32_t random32(uint64_t *seed)
+{
+    *seed ^= *seed >> 12;
+    *seed ^= *seed << 25;
+    *seed ^= *seed >> 27;
+    return (uint32_t)(*seed * 0x2545F4914F6CDD1D >> 32);
+}
+
+static uint32_t below(uint64_t *seed, uint32_t limit)
+{
+    return random32(seed) % limit;
+}
+
+static void random_samples(uint64_t *seed, int16_t *samples, size_t count)
+{
+    for (size_t k = 0; k < count; k++)
+        samples[k] = (int16_t)((int32_t)below(seed, 0x10000) - 0x8000);
+}
+
+/* ---- scenes */
+
+static void must_make(struct core *core, uint32_t size)
+{
+    if (core_make(core, size))
+        return;
+    fputs("not enough memory\n", stderr);
+    exit(EXIT_FAILURE);
+}
+
+struct setting {
+    uint16_t offset;
+    uint16_t value;
+};
+
+static void write_all(struct core *core, const struct setting *settings, size_t count)
+{
+    for (size_t k = 0; k < count; k++)
+        check(core_write(core, settings[k].offset, settings[k].value) == 0, "write %X", settings[k].offset);
+}
+
+#define WRITE_ALL(core, ...)                                                                                           \
+    write_all(core, (const struct setting[]){__VA_ARGS__},                                                             \
+              sizeof(const struct setting[]){__VA_ARGS__} / sizeof(struct setting))
+
+/* SPUCNT, and a tick, after which its mode is applied */
+static void apply_control(struct core *core, uint16_t control)
+{
+    WRITE_ALL(core, {0x1AA, control});
+    core_tick(core, 0, 0);
+}
+
+/* Four random blocks at unit 200h, looped or running on into what follows. */
+static void load_sample(struct core *core, uint64_t *seed, bool looped)
+{
+    uint16_t halfwords[32];
+    for (size_t k = 0; k < 32; k++)
+        halfwords[k] = (uint16_t)random32(seed);
+    for (size_t block = 0; block < 4; block++) {
+        uint32_t flags = block == 0 ? 4 : block == 3 && looped ? 3 : 0;
+        halfwords[8 * block] = (uint16_t)(flags << 8 | below(seed, 5) << 4 | below(seed, 5));
+    }
+    apply_control(core, 0xC010);
+    WRITE_ALL(core, {0x1A6, 0x200});
+    check(core_transfer_in(core, halfwords, 32).count == 32, "a sample is loaded");
+}
+
+static void start_voices(struct core *core, uint64_t *seed)
+{
+    for (uint32_t n = 0; n < 24; n++) {
+        uint16_t at = (uint16_t)(0x10 * n);
+        WRITE_ALL(core, {at, (uint16_t)below(seed, 0x8000)}, {(uint16_t)(at + 2), (uint16_t)below(seed, 0x8000)},
+                  {(uint16_t)(at + 4), (uint16_t)(0x800 + below(seed, 0x1000))}, {(uint16_t)(at + 6), 0x200},
+                  {(uint16_t)(at + 8), 0x80FF}, {(uint16_t)(at + 10), 0x1FC0});
+    }
+    WRITE_ALL(core, {0x190, 0x0A0A}, {0x194, 0x0400}, {0x188, 0xFFFF}, {0x18A, 0xFF});
+}
+
+/* All is marked; the reverb has random registers, and the interrupt comes when capture reaches 200h. */
+static void start_reverb(struct core *core, uint64_t *seed)
+{
+    memset(core->marks, 0xFF, core->size / 16);
+    WRITE_ALL(core, {0x1A2, (uint16_t)(core->size / 8 - 0x800)}, {0x184, 0x7FFF}, {0x186, 0x5000}, {0x198, 0xFFFF},
+              {0x19A, 0xFF}, {0x1B0, 0x4000}, {0x1B2, 0x6000}, {0x1A4, 0x40});
+    for (uint16_t offset = 0x1C0; offset < 0x200; offset += 2)
+        WRITE_ALL(core, {offset, (uint16_t)below(seed, 0x8000)});
+    WRITE_ALL(core, {0x1AA, 0xC0C5});
+}
+
+/* Of an odd seed with reverb, CD and interrupt; of an even one it runs into memory that nobody loaded. */
+static void compose(struct core *core, uint64_t seed)
+{
+    bool reverb = seed % 2 == 1;
+    WRITE_ALL(core, {0x180, 0x3FFF}, {0x182, 0x2FFF});
+    load_sample(core, &seed, reverb);
+    start_voices(core, &seed);
+    if (reverb)
+        start_reverb(core, &seed);
+}
+
+static void must_make_composed(struct core *core, uint32_t size, uint64_t seed)
+{
+    must_make(core, size);
+    compose(core, seed);
+}
+
+static bool same_cores(const struct core *a, const struct core *b)
+{
+    return memcmp(a->state, b->state, sizeof a->state) == 0 && memcmp(a->ram, b->ram, a->size) == 0 &&
+           memcmp(a->marks, b->marks, a->size / 16) == 0;
+}
+
+/* ---- numbers: what is refused leaves everything as it was */
+
+static bool seen[CALLS][10];
+
+/* The call on a copy gives the number. If refused it gives nothing else and changes nothing; if not, it leaves a state,
+ * and its ticks are counted. */
+static void expect(const struct lent *lent, int which, uint8_t number)
+{
+    const struct call *call = &calls[which];
+    struct lent after;
+    lent_copy(&after, lent);
+    struct outcome outcome = call->run(&after);
+    check(outcome.number == number, "%s gives %d, not %d", call->name, outcome.number, number);
+    if (outcome.number < 10)
+        seen[which][outcome.number] = true;
+    if (outcome.number != 0) {
+        check(outcome.empty && lent_same(lent, &after), "%s refused with %d changes nothing", call->name, number);
+    } else {
+        const uint8_t *state = lent_state(&after);
+        check(is_image(state, after.buffers[STATE].count) && is_in_range(state), "%s leaves a state", call->name);
+        uint32_t before = tenonwhisk_status(lent_state(lent), TENONWHISK_STATE_BYTES).tick;
+        uint32_t tick = tenonwhisk_status(state, TENONWHISK_STATE_BYTES).tick;
+        check(tick == (which == RESET ? 0 : before + call->ticks), "%s counts its ticks", call->name);
+    }
+    lent_free(&after);
+}
+
+static void expect_all_as_ruled(const struct lent *lent)
+{
+    for (int which = 0; which < CALLS; which++)
+        expect(lent, which, expected_number(&calls[which], lent));
+}
+
+static void expect_resized(const struct lent *lent, int which, enum which buffer, size_t count, uint8_t number)
+{
+    struct lent resized;
+    lent_copy(&resized, lent);
+    lent_resize(&resized, buffer, count);
+    expect(&resized, which, number);
+    lent_free(&resized);
+}
+
+static void test_lengths(uint32_t size)
+{
+    struct lent lent;
+    lent_make(&lent, size);
+    const size_t rams[] = {0, size - 1, size + 1, size == SMALL ? LARGE : SMALL};
+    const size_t states[] = {0, 1, TENONWHISK_STATE_BYTES - 1, TENONWHISK_STATE_BYTES + 1, MOST_STATE};
+    for (int which = 0; which < CALLS; which++) {
+        for (size_t k = 0; k < sizeof rams / sizeof *rams; k++) {
+            if (calls[which].takes_ram)
+                expect_resized(&lent, which, RAM, rams[k], 1);
+            if (calls[which].takes_marks)
+                expect_resized(&lent, which, MARKS, rams[k] / 16 + (rams[k] == size + 1), 1);
+        }
+        for (size_t k = 0; k < sizeof states / sizeof *states; k++)
+            expect_resized(&lent, which, STATE, states[k], 2);
+    }
+    lent_free(&lent);
+}
+
+static void test_registers(void)
+{
+    struct lent lent;
+    lent_make(&lent, SMALL);
+    const uint16_t values[] = {0, 4, 0x7FFF, 0x8000, 0xFFFF};
+    for (lent.offset = 0; lent.offset < 0x240; lent.offset++)
+        for (size_t k = 0; k < sizeof values / sizeof *values; k++) {
+            lent.value = values[k];
+            expect(&lent, WRITE, expected_number(&calls[WRITE], &lent));
+            expect(&lent, READ, expected_number(&calls[READ], &lent));
+        }
+    lent.offset = 0x10000; /* its low 16 bits are those of a register */
+    expect(&lent, WRITE, 3);
+    expect(&lent, READ, 3);
+    lent_free(&lent);
+}
+
+static void test_transfers(void)
+{
+    for (uint16_t mode = 0; mode < 4; mode++) {
+        struct lent lent;
+        lent_make(&lent, SMALL);
+        tenonwhisk_write(lent_state(&lent), TENONWHISK_STATE_BYTES, 0x1AA, (uint16_t)(0xC000 | mode << 4));
+        expect(&lent, TRANSFER_IN, 6); /* no mode before the next tick */
+        expect(&lent, TRANSFER_OUT, 6);
+        calls[TICK].run(&lent);
+        bool in = mode == 1 || mode == 2, out = mode == 3;
+        for (size_t count = 0; count <= 40; count++) {
+            bool moves = count >= 1 && count <= 32;
+            expect_resized(&lent, TRANSFER_IN, VALUES, count, !in ? 6 : moves ? 0 : 7);
+            expect_resized(&lent, TRANSFER_OUT, OUTWARD, count, !out ? 6 : moves ? 0 : 7);
+        }
+        lent_free(&lent);
+    }
+}
+
+static void test_run_buffers(void)
+{
+    const enum which buffers[] = {CD, SAMPLES, FLOATS};
+    struct lent lent;
+    lent_make(&lent, SMALL);
+    expect(&lent, RUN, 0);
+    expect(&lent, RUN_FLOATS, 0);
+    for (size_t k = 0; k < 3; k++)
+        for (size_t count = 0; count < 14; count++) {
+            uint8_t number = count == lent.buffers[CD].count ? 0 : 9;
+            expect_resized(&lent, RUN, buffers[k], count, buffers[k] == FLOATS ? 0 : number);
+            expect_resized(&lent, RUN_FLOATS, buffers[k], count, number);
+        }
+    for (size_t k = 0; k < 3; k++)
+        lent_resize(&lent, buffers[k], 7);
+    expect(&lent, RUN, 9);
+    expect(&lent, RUN_FLOATS, 9);
+    lent_free(&lent);
+}
+
+static void test_views(uint32_t size)
+{
+    struct lent lent;
+    lent_make(&lent, size);
+    const uint32_t good[] = {0, 8, 16, size / 2, size - 24, size - 16};
+    const uint32_t bad[] = {1, 2, 4, 12, size - 15, size - 8, size, size + 8, 0x7FFFFFF8, 0xFFFFFFF0, 0xFFFFFFFF};
+    for (size_t k = 0; k < sizeof good / sizeof *good; k++) {
+        lent.address = good[k];
+        expect(&lent, VIEW, 0);
+        const uint8_t *ram = lent.buffers[RAM].data;
+        const uint8_t *view = tenonwhisk_block_view(lent_state(&lent), TENONWHISK_STATE_BYTES, ram, size, good[k]);
+        check(view == ram + good[k], "a view is the host's own RAM");
+    }
+    for (size_t k = 0; k < sizeof bad / sizeof *bad; k++) {
+        lent.address = bad[k];
+        expect(&lent, VIEW, 8);
+    }
+    lent_free(&lent);
+}
+
+/* ---- damaged states */
+
+static void flip_bits(uint64_t *seed, uint8_t *state)
+{
+    for (uint32_t left = 1 + below(seed, 8); left > 0; left--)
+        state[below(seed, TENONWHISK_STATE_BYTES)] ^= (uint8_t)(1 << below(seed, 8));
+}
+
+static void replace_bytes(uint64_t *seed, uint8_t *state, size_t from, size_t count)
+{
+    for (size_t k = from; k < from + count; k++)
+        state[k] = (uint8_t)random32(seed);
+}
+
+static void damage(uint64_t *seed, struct lent *lent)
+{
+    uint8_t *state = lent_state(lent);
+    uint32_t from = below(seed, TENONWHISK_STATE_BYTES);
+    switch (below(seed, 6)) {
+    case 0:
+    case 1:
+        flip_bits(seed, state);
+        break;
+    case 2:
+        replace_bytes(seed, state, from, 1);
+        break;
+    case 3:
+        replace_bytes(seed, state, from, 1 + below(seed, TENONWHISK_STATE_BYTES - from));
+        break;
+    case 4:
+        replace_bytes(seed, state, below(seed, 2) * 8, TENONWHISK_STATE_BYTES - 8); /* tag and size damaged or not */
+        break;
+    case 5:
+        lent_resize(lent, STATE, below(seed, MOST_STATE + 1));
+        break;
+    }
+}
+
+static void test_damaged_states(unsigned long images)
+{
+    uint64_t seed = 1;
+    struct core core;
+    struct lent lent;
+    must_make_composed(&core, SMALL, 1);
+    lent_make(&lent, SMALL);
+    memcpy(lent.buffers[RAM].data, core.ram, SMALL);
+    for (; images > 0; images--) {
+        lent_resize(&lent, STATE, TENONWHISK_STATE_BYTES);
+        memcpy(lent_state(&lent), core.state, sizeof core.state);
+        damage(&seed, &lent);
+        lent.offset = 2 * below(&seed, 0x110);
+        lent.value = (uint16_t)random32(&seed);
+        lent.address = 8 * below(&seed, SMALL / 8 + 2);
+        expect_all_as_ruled(&lent);
+    }
+    lent_free(&lent);
+    core_free(&core);
+}
+
+/* Each call has given each number that it can give, and no other. */
+static void test_seen(void)
+{
+    static const char *const numbers[CALLS] = {
+        [RESET] = "02",          [STATUS] = "02",          [WRITE] = "02345", [READ] = "0235",
+        [TRANSFER_IN] = "01267", [TRANSFER_OUT] = "01267", [TICK] = "012",    [TICK_FLOATS] = "012",
+        [RUN] = "0129",          [RUN_FLOATS] = "0129",    [VIEW] = "0128",
+    };
+    for (int which = 0; which < CALLS; which++)
+        for (int number = 0; number < 10; number++) {
+            bool can = strchr(numbers[which], '0' + number) != NULL;
+            check(seen[which][number] == can, "%s gives %d: %s", calls[which].name, number, can ? "never" : "once");
+        }
+}
+
+/* ---- making, resetting, tick numbers */
+
+static void test_make(void)
+{
+    uint8_t small[TENONWHISK_STATE_BYTES], other[TENONWHISK_STATE_BYTES + 1], untouched[sizeof other];
+    const uint32_t wrong[] = {0, 1, SMALL - 1, SMALL + 1, LARGE - 1, LARGE + 1, 0xFFFFFFFF};
+    check(tenonwhisk_make(SMALL, small, sizeof small) == 0, "make");
+    for (size_t k = 0; k < sizeof wrong / sizeof *wrong; k++) {
+        check(tenonwhisk_make(wrong[k], other, sizeof small) == 1, "make of another size gives 1");
+        check(memcmp(other, small, sizeof small) == 0, "and the state for 65,536");
+    }
+    memset(other, 0xA5, sizeof other);
+    memcpy(untouched, other, sizeof other);
+    check(tenonwhisk_make(LARGE, other, sizeof other) == 2, "make of more bytes gives 2");
+    check(tenonwhisk_make(LARGE, other, sizeof small - 1) == 2, "make of fewer bytes gives 2");
+    check(memcmp(other, untouched, sizeof other) == 0, "and writes none");
+    check(tenonwhisk_make(LARGE, other, sizeof small) == 0, "make");
+    struct tenonwhisk_status status = tenonwhisk_status(other, sizeof small);
+    check(status.number == 0 && status.size == LARGE && status.tick == 0 && !status.doubt, "status of a fresh state");
+}
+
+static void test_reset(uint32_t size)
+{
+    struct core core, before;
+    uint8_t made[TENONWHISK_STATE_BYTES];
+    static uint8_t ram[LARGE], marks[LARGE / 16];
+    int16_t cd[200] = {0}, out[200];
+    must_make_composed(&core, size, 2);
+    core_run(&core, cd, out, 100);
+    before = core;
+    before.ram = memcpy(ram, core.ram, size);
+    before.marks = memcpy(marks, core.marks, size / 16);
+    check(core_reset(&core) == 0, "reset");
+    tenonwhisk_make(size, made, sizeof made);
+    memcpy(before.state, made, sizeof made);
+    check(same_cores(&core, &before), "reset gives the state as made; RAM and marks stay");
+    core_free(&core);
+}
+
+static void test_tick_number(void)
+{
+    struct core core;
+    must_make(&core, SMALL);
+    memset(core.state + TENONWHISK_STATE_BYTES - 4, 0xFF, 4);
+    check(core_status(&core).tick == 0xFFFFFFFF, "the tick number stands last in a state");
+    check(core_tick(&core, 0, 0).number == 0 && core_status(&core).tick == 0, "it passes from FFFFFFFFh to 0");
+    core_free(&core);
+}
+
+/* ---- runs */
+
+struct played {
+    int16_t out[2 * PAIRS];
+    float floats[2 * PAIRS];
+    struct tenonwhisk_ran ran;
+};
+
+static void play_singly(struct core *core, const int16_t *cd, size_t pairs, struct played *played)
+{
+    played->ran = (struct tenonwhisk_ran){0, pairs, pairs, pairs};
+    for (size_t k = 0; k < pairs; k++) {
+        struct tenonwhisk_ticked ticked = core_tick(core, cd[2 * k], cd[2 * k + 1]);
+        check(ticked.number == 0, "tick");
+        played->out[2 * k] = ticked.left;
+        played->out[2 * k + 1] = ticked.right;
+        if (ticked.irq)
+            played->ran.irq = k;
+        if (ticked.doubt)
+            played->ran.doubt = k;
+    }
+}
+
+static void play_floats_singly(struct core *core, const int16_t *cd, size_t pairs, float *floats)
+{
+    for (size_t k = 0; k < pairs; k++) {
+        struct tenonwhisk_ticked_floats ticked = core_tick_floats(core, cd[2 * k], cd[2 * k + 1]);
+        check(ticked.number == 0, "tick_floats");
+        floats[2 * k] = ticked.left;
+        floats[2 * k + 1] = ticked.right;
+    }
+}
+
+static bool same_ran(struct tenonwhisk_ran a, struct tenonwhisk_ran b)
+{
+    return a.number == b.number && a.count == b.count && a.irq == b.irq && a.doubt == b.doubt;
+}
+
+static bool are_floats_of(const float *floats, const int16_t *samples, size_t count)
+{
+    for (size_t k = 0; k < count; k++)
+        if (floats[k] != (float)samples[k] / 32768.0f)
+            return false;
+    return true;
+}
+
+static bool sounds(const int16_t *samples, size_t count)
+{
+    for (size_t k = 0; k < count; k++)
+        if (samples[k] != 0)
+            return true;
+    return false;
+}
+
+static void test_run(uint32_t size, uint64_t seed, size_t pairs)
+{
+    static struct played run, single, floats;
+    static float single_floats[2 * PAIRS];
+    static int16_t cd[2 * PAIRS];
+    struct core cores[4];
+    uint64_t cd_seed = 7;
+    random_samples(&cd_seed, cd, 2 * pairs);
+    for (int k = 0; k < 4; k++)
+        must_make_composed(&cores[k], size, seed);
+    run.ran = core_run(&cores[0], cd, run.out, pairs);
+    play_singly(&cores[1], cd, pairs, &single);
+    floats.ran = core_run_floats(&cores[2], cd, floats.out, floats.floats, pairs);
+    play_floats_singly(&cores[3], cd, pairs, single_floats);
+    size_t bytes = 2 * pairs * sizeof *cd;
+    check(same_ran(run.ran, single.ran) && same_ran(floats.ran, single.ran), "a run reports as its ticks do");
+    check(memcmp(run.out, single.out, bytes) == 0, "a run of %zu gives the pairs of %zu ticks", pairs, pairs);
+    check(memcmp(floats.out, run.out, bytes) == 0, "run_floats gives the pairs of run");
+    check(are_floats_of(floats.floats, run.out, 2 * pairs), "run_floats gives the floats of run");
+    check(are_floats_of(single_floats, run.out, 2 * pairs), "tick_floats gives the floats of run");
+    for (int k = 1; k < 4; k++)
+        check(same_cores(&cores[0], &cores[k]), "all leave the same state, RAM and marks");
+    if (pairs == PAIRS) {
+        check(run.ran.irq < pairs || seed % 2 == 0, "the interrupt came");
+        check(run.ran.doubt < pairs || seed % 2 == 1, "the doubt came");
+        check(sounds(run.out, 2 * pairs), "it sounds");
+    }
+    for (int k = 0; k < 4; k++)
+        core_free(&cores[k]);
+}
+
+static void test_runs(void)
+{
+    const size_t lengths[] = {0, 1, 2, 3, 29, PAIRS};
+    for (size_t k = 0; k < sizeof lengths / sizeof *lengths; k++)
+        for (uint64_t seed = 1; seed <= 4; seed++)
+            test_run(seed <= 2 ? SMALL : LARGE, seed, lengths[k]);
+}
+
+/* ---- cores and states apart from each other */
+
+static void test_side_by_side(void)
+{
+    static int16_t cd[2 * PAIRS];
+    static struct played alone[2], beside[2];
+    struct core cores[2], others[2];
+    uint64_t seed = 11;
+    random_samples(&seed, cd, 2 * PAIRS);
+    for (int n = 0; n < 2; n++) {
+        must_make_composed(&cores[n], n == 0 ? SMALL : LARGE, 5 + (uint64_t)n);
+        must_make_composed(&others[n], cores[n].size, 5 + (uint64_t)n);
+        play_singly(&cores[n], cd, PAIRS, &alone[n]);
+    }
+    for (size_t k = 0; k < PAIRS; k++)
+        for (int n = 0; n < 2; n++) {
+            struct tenonwhisk_ticked ticked = core_tick(&others[n], cd[2 * k], cd[2 * k + 1]);
+            beside[n].out[2 * k] = ticked.left;
+            beside[n].out[2 * k + 1] = ticked.right;
+        }
+    for (int n = 0; n < 2; n++) {
+        check(memcmp(alone[n].out, beside[n].out, sizeof alone[n].out) == 0, "two cores give what each gives alone");
+        check(same_cores(&cores[n], &others[n]), "and leave what each leaves alone");
+        core_free(&cores[n]);
+        core_free(&others[n]);
+    }
+}
+
+static void test_restored(void)
+{
+    static int16_t cd[2 * PAIRS], out[2 * PAIRS], again[2 * PAIRS];
+    struct core core, kept;
+    must_make_composed(&core, SMALL, 9);
+    core_run(&core, cd, out, PAIRS);
+    must_make(&kept, SMALL);
+    memcpy(kept.state, core.state, sizeof core.state);
+    memcpy(kept.ram, core.ram, SMALL);
+    memcpy(kept.marks, core.marks, SMALL / 16);
+    core_run(&core, cd, out, PAIRS);
+    core_run(&kept, cd, again, PAIRS);
+    check(memcmp(out, again, sizeof out) == 0, "a copied state goes on the same");
+    check(same_cores(&core, &kept), "and leaves the same");
+    core_free(&core);
+    core_free(&kept);
+}
+
+/* ---- the edges of document 01 that are run and compared */
+
+static void test_lowest_mix(void)
+{
+    struct core core;
+    const uint16_t lowest[8] = {0x0700, 0x8888, 0x8888, 0x8888, 0x8888, 0x8888, 0x8888, 0x8888};
+    must_make(&core, SMALL);
+    apply_control(&core, 0xC010);
+    WRITE_ALL(&core, {0x180, 0x4000}, {0x182, 0x3FFF}, {0x1A6, 0x200});
+    core_transfer_in(&core, lowest, 8);
+    for (uint16_t at = 0; at <= 0x10; at += 0x10)
+        WRITE_ALL(&core, {at, 0x3FFF}, {(uint16_t)(at + 2), 0x3FFF}, {(uint16_t)(at + 4), 0x1000},
+                  {(uint16_t)(at + 6), 0x200}, {(uint16_t)(at + 8), 0x000F});
+    WRITE_ALL(&core, {0x188, 3});
+    struct tenonwhisk_ticked ticked = {0};
+    for (int k = 0; k < 12; k++)
+        ticked = core_tick(&core, 0, 0);
+    check(ticked.left == 0x7FFF, "a mix of -8000h at main volume 4000h answers 7FFFh, not %d", ticked.left);
+    check(ticked.right == -0x7FFE, "and at 3FFFh -7FFEh, not %d", ticked.right);
+    core_free(&core);
+}
+
+static void test_33_halfwords(void)
+{
+    struct core core;
+    uint16_t values[33], back[33];
+    must_make(&core, SMALL);
+    for (uint16_t k = 0; k < 33; k++)
+        values[k] = (uint16_t)(0x1111 * k + 1);
+    apply_control(&core, 0xC020);
+    WRITE_ALL(&core, {0x1A6, 0x200});
+    check(core_transfer_in(&core, values, 33).number == 7, "33 halfwords give 7");
+    check(core_transfer_in(&core, values, 32).count == 32, "32 halfwords move");
+    apply_control(&core, 0xC030);
+    WRITE_ALL(&core, {0x1A6, 0x200});
+    check(core_transfer_out(&core, back, 33).number == 7, "33 outward too");
+    check(core_transfer_out(&core, back, 32).count == 32, "and 32 move");
+    check(memcmp(values, back, 32 * sizeof *back) == 0, "and are the same");
+    core_free(&core);
+}
+
+/* A voice plays a block at L-8, of which so many halfwords are loaded. */
+static void start_at_end(struct core *core, size_t loaded)
+{
+    const uint16_t block[8] = {0x0700, 0x7777, 0x7777, 0x7777, 0x7777, 0x7777, 0x7777, 0x7777};
+    must_make(core, SMALL);
+    apply_control(core, 0xC010);
+    WRITE_ALL(core, {0x180, 0x3FFF}, {0x182, 0x3FFF}, {0x1A6, 0x1FFF}, {0, 0x3FFF}, {2, 0x3FFF}, {4, 0x1000},
+              {6, 0x1FFF}, {8, 0x000F});
+    core_transfer_in(core, block, loaded);
+    WRITE_ALL(core, {0x188, 1});
+}
+
+static void test_block_at_end(void)
+{
+    const int16_t cd[2 * 28] = {0};
+    int16_t out[2 * 28];
+    struct core core;
+    start_at_end(&core, 8);
+    check(core_run(&core, cd, out, 27).doubt == 27, "a block at L-8 is loaded wrapped");
+    check(out[2 * 6] > 0x6000 && out[2 * 26] > 0x6000, "and plays, its second half too");
+    check(core_view_number(&core, SMALL - 8) == 8 && !core_block_view(&core, SMALL - 8), "its view gives 8");
+    core_free(&core);
+    start_at_end(&core, 4);
+    check(core_tick(&core, 0, 0).doubt, "its second half are the bytes at 0, which nobody loaded here");
+    core_free(&core);
+}
+
+/* ---- the WAV file's end */
+
+static void test_wav_limit(void)
+{
+    const int16_t samples[6] = {0};
+    struct wav wav;
+    check(wav_open(&wav, "/dev/null") == NULL, "open a WAV file");
+    wav.pairs = WAV_MOST_PAIRS - 2;
+    check(wav_write(&wav, samples, 1) == NULL && wav.pairs == WAV_MOST_PAIRS - 1, "the last but one fits");
+    check(wav_write(&wav, samples, 3) != NULL && wav.pairs == WAV_MOST_PAIRS, "one of three fits, and it says so");
+    check(wav_close(&wav) == NULL, "and the file is good");
+}
+
+int main(int argc, char **argv)
+{
+    test_make();
+    for (uint32_t size = SMALL; size <= LARGE; size += LARGE - SMALL) {
+        test_lengths(size);
+        test_views(size);
+        test_reset(size);
+    }
+    test_registers();
+    test_transfers();
+    test_run_buffers();
+    test_damaged_states(argc > 1 ? strtoul(argv[1], NULL, 10) : IMAGES);
+    test_seen();
+    test_tick_number();
+    test_runs();
+    test_side_by_side();
+    test_restored();
+    test_lowest_mix();
+    test_33_halfwords();
+    test_block_at_end();
+    test_wav_limit();
+    printf("%lu checks, %lu failed\n", checks, failures);
+    return failures == 0 ? EXIT_SUCCESS : EXIT_FAILURE;
+}
