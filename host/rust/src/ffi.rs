@@ -1,0 +1,220 @@
+//! `tenonwhisk.h`: its declarations, and each call over slices.
+//!
+//! What the header asks of a caller holds of any slices: their pointers are not null and stand for as many elements as
+//! their lengths say, and a mutable slice overlaps no other.
+
+use std::ffi::c_float;
+
+#[repr(C)]
+pub struct Status {
+    pub number: u8,
+    pub doubt: bool,
+    pub size: u32,
+    pub tick: u32,
+}
+
+#[repr(C)]
+pub struct Reading {
+    pub number: u8,
+    pub value: u16,
+}
+
+#[repr(C)]
+pub struct Moved {
+    pub number: u8,
+    pub irq: bool,
+    pub doubt: bool,
+    pub count: u32,
+}
+
+#[repr(C)]
+pub struct Ticked<S> {
+    pub number: u8,
+    pub irq: bool,
+    pub doubt: bool,
+    pub left: S,
+    pub right: S,
+}
+
+#[repr(C)]
+pub struct Ran {
+    pub number: u8,
+    pub count: usize,
+    pub irq: usize,
+    pub doubt: usize,
+}
+
+#[rustfmt::skip]
+unsafe extern "C" {
+    fn tenonwhisk_make(size: u32, state: *mut u8, state_len: usize) -> u8;
+    fn tenonwhisk_reset(state: *mut u8, state_len: usize) -> u8;
+    fn tenonwhisk_status(state: *const u8, state_len: usize) -> Status;
+    fn tenonwhisk_write(state: *mut u8, state_len: usize, offset: u32, value: u16) -> u8;
+    fn tenonwhisk_read(state: *const u8, state_len: usize, offset: u32) -> Reading;
+    fn tenonwhisk_transfer_in(
+        state: *mut u8, state_len: usize, ram: *mut u8, ram_len: usize, marks: *mut u8, marks_len: usize,
+        values: *const u16, values_len: usize,
+    ) -> Moved;
+    fn tenonwhisk_transfer_out(
+        state: *mut u8, state_len: usize, ram: *const u8, ram_len: usize, marks: *const u8, marks_len: usize,
+        out: *mut u16, out_len: usize,
+    ) -> Moved;
+    fn tenonwhisk_tick(
+        state: *mut u8, state_len: usize, ram: *mut u8, ram_len: usize, marks: *mut u8, marks_len: usize,
+        cd_left: i16, cd_right: i16,
+    ) -> Ticked<i16>;
+    fn tenonwhisk_tick_floats(
+        state: *mut u8, state_len: usize, ram: *mut u8, ram_len: usize, marks: *mut u8, marks_len: usize,
+        cd_left: i16, cd_right: i16,
+    ) -> Ticked<c_float>;
+    fn tenonwhisk_run(
+        state: *mut u8, state_len: usize, ram: *mut u8, ram_len: usize, marks: *mut u8, marks_len: usize,
+        cd: *const i16, cd_len: usize, out: *mut i16, out_len: usize,
+    ) -> Ran;
+    fn tenonwhisk_run_floats(
+        state: *mut u8, state_len: usize, ram: *mut u8, ram_len: usize, marks: *mut u8, marks_len: usize,
+        cd: *const i16, cd_len: usize, out: *mut i16, out_len: usize, floats: *mut c_float, floats_len: usize,
+    ) -> Ran;
+    fn tenonwhisk_view_number(
+        state: *const u8, state_len: usize, ram: *const u8, ram_len: usize, address: u32,
+    ) -> u8;
+}
+
+pub fn make(size: u32, state: &mut [u8]) -> u8 {
+    // SAFETY: the pointer and the length are those of a slice.
+    unsafe { tenonwhisk_make(size, state.as_mut_ptr(), state.len()) }
+}
+
+pub fn reset(state: &mut [u8]) -> u8 {
+    // SAFETY: the pointer and the length are those of a slice.
+    unsafe { tenonwhisk_reset(state.as_mut_ptr(), state.len()) }
+}
+
+pub fn status(state: &[u8]) -> Status {
+    // SAFETY: the pointer and the length are those of a slice, which is only read.
+    unsafe { tenonwhisk_status(state.as_ptr(), state.len()) }
+}
+
+pub fn write(state: &mut [u8], offset: u32, value: u16) -> u8 {
+    // SAFETY: the pointer and the length are those of a slice.
+    unsafe { tenonwhisk_write(state.as_mut_ptr(), state.len(), offset, value) }
+}
+
+pub fn read(state: &[u8], offset: u32) -> Reading {
+    // SAFETY: the pointer and the length are those of a slice, which is only read.
+    unsafe { tenonwhisk_read(state.as_ptr(), state.len(), offset) }
+}
+
+pub fn transfer_in(state: &mut [u8], ram: &mut [u8], marks: &mut [u8], values: &[u16]) -> Moved {
+    // SAFETY: pointers and lengths are those of slices, which do not overlap; `values` is only read.
+    unsafe {
+        tenonwhisk_transfer_in(
+            state.as_mut_ptr(),
+            state.len(),
+            ram.as_mut_ptr(),
+            ram.len(),
+            marks.as_mut_ptr(),
+            marks.len(),
+            values.as_ptr(),
+            values.len(),
+        )
+    }
+}
+
+pub fn transfer_out(state: &mut [u8], ram: &[u8], marks: &[u8], out: &mut [u16]) -> Moved {
+    // SAFETY: pointers and lengths are those of slices; those that are written overlap no other.
+    unsafe {
+        tenonwhisk_transfer_out(
+            state.as_mut_ptr(),
+            state.len(),
+            ram.as_ptr(),
+            ram.len(),
+            marks.as_ptr(),
+            marks.len(),
+            out.as_mut_ptr(),
+            out.len(),
+        )
+    }
+}
+
+pub fn tick(state: &mut [u8], ram: &mut [u8], marks: &mut [u8], cd_left: i16, cd_right: i16) -> Ticked<i16> {
+    // SAFETY: pointers and lengths are those of slices, which do not overlap.
+    unsafe {
+        tenonwhisk_tick(
+            state.as_mut_ptr(),
+            state.len(),
+            ram.as_mut_ptr(),
+            ram.len(),
+            marks.as_mut_ptr(),
+            marks.len(),
+            cd_left,
+            cd_right,
+        )
+    }
+}
+
+pub fn tick_floats(state: &mut [u8], ram: &mut [u8], marks: &mut [u8], cd_left: i16, cd_right: i16) -> Ticked<f32> {
+    // SAFETY: pointers and lengths are those of slices, which do not overlap.
+    unsafe {
+        tenonwhisk_tick_floats(
+            state.as_mut_ptr(),
+            state.len(),
+            ram.as_mut_ptr(),
+            ram.len(),
+            marks.as_mut_ptr(),
+            marks.len(),
+            cd_left,
+            cd_right,
+        )
+    }
+}
+
+pub fn run(state: &mut [u8], ram: &mut [u8], marks: &mut [u8], cd: &[i16], out: &mut [i16]) -> Ran {
+    // SAFETY: pointers and lengths are those of slices, which do not overlap; `cd` is only read.
+    unsafe {
+        tenonwhisk_run(
+            state.as_mut_ptr(),
+            state.len(),
+            ram.as_mut_ptr(),
+            ram.len(),
+            marks.as_mut_ptr(),
+            marks.len(),
+            cd.as_ptr(),
+            cd.len(),
+            out.as_mut_ptr(),
+            out.len(),
+        )
+    }
+}
+
+pub fn run_floats(
+    state: &mut [u8],
+    ram: &mut [u8],
+    marks: &mut [u8],
+    cd: &[i16],
+    out: &mut [i16],
+    floats: &mut [f32],
+) -> Ran {
+    // SAFETY: pointers and lengths are those of slices, which do not overlap; `cd` is only read.
+    unsafe {
+        tenonwhisk_run_floats(
+            state.as_mut_ptr(),
+            state.len(),
+            ram.as_mut_ptr(),
+            ram.len(),
+            marks.as_mut_ptr(),
+            marks.len(),
+            cd.as_ptr(),
+            cd.len(),
+            out.as_mut_ptr(),
+            out.len(),
+            floats.as_mut_ptr(),
+            floats.len(),
+        )
+    }
+}
+
+pub fn view_number(state: &[u8], ram: &[u8], address: u32) -> u8 {
+    // SAFETY: pointers and lengths are those of slices, which are only read.
+    unsafe { tenonwhisk_view_number(state.as_ptr(), state.len(), ram.as_ptr(), ram.len(), address) }
+}

@@ -1,0 +1,240 @@
+use crate::{ffi, Refusal, Size, State};
+
+/// What a transfer did.
+#[derive(Debug, Clone, Copy, PartialEq, Eq)]
+pub struct Moved {
+    /// Halfwords that were moved.
+    pub count: usize,
+    /// Whether it raised the interrupt.
+    pub irq: bool,
+    /// Whether it raised the doubt: it read a halfword that nobody loaded, the first since a reset.
+    pub doubt: bool,
+}
+
+/// What a tick gave: its pair of samples, [`i16`] or [`f32`].
+#[derive(Debug, Clone, Copy, PartialEq)]
+pub struct Ticked<S> {
+    /// The left sample.
+    pub left: S,
+    /// The right sample.
+    pub right: S,
+    /// Whether it raised the interrupt.
+    pub irq: bool,
+    /// Whether it raised the doubt: from this tick on the sound may rest on memory that nobody loaded.
+    pub doubt: bool,
+}
+
+/// What a run of ticks gave besides its samples. Ticks are counted from 0 within the run.
+#[derive(Debug, Clone, Copy, PartialEq, Eq)]
+pub struct Ran {
+    /// Ticks, a pair of samples each.
+    pub count: usize,
+    /// The tick that raised the interrupt.
+    pub irq: Option<usize>,
+    /// The tick that raised the doubt.
+    pub doubt: Option<usize>,
+}
+
+/// The sound chip: a [`State`] with sound RAM and marks.
+///
+/// `M` is what RAM and marks are kept in: `Vec<u8>` if the chip owns them ([`Spu::new`]), `&mut [u8]` if they are lent
+/// ([`Spu::with_memory`]), or any other kind of bytes. Bit `h % 8` of the marks' byte `h / 8` says that the halfword of
+/// RAM at address `2 * h` is loaded.
+///
+/// Nothing is shared between chips: any number of them run side by side, on any threads.
+///
+/// ```
+/// use tenonwhisk::{Refusal, Size, Spu};
+///
+/// let mut spu = Spu::new(Size::K64);
+/// spu.write(0x180, 0x3FFF)?; // main volume, left
+/// spu.write(0x182, 0x3FFF)?; // and right
+/// spu.write(0x1AA, 0xC010)?; // SPUCNT: on, heard, transfers inward from the next tick on
+/// let ticked = spu.tick(0, 0)?;
+/// assert_eq!((ticked.left, ticked.right), (0, 0));
+///
+/// spu.write(0x1A6, 0x200)?; // transfer address, in units of 8 bytes
+/// assert_eq!(spu.transfer_in(&[0x0700, 0x7777])?.count, 2);
+/// assert_eq!(spu.block_view(0x1000)?[..4], [0x00, 0x07, 0x77, 0x77]);
+///
+/// let cd = [0; 2 * 441];
+/// let mut out = [0; 2 * 441];
+/// assert_eq!(spu.run(&cd, &mut out)?.count, 441); // a hundredth of a second
+/// assert_eq!(spu.tick_number(), 442);
+/// # Ok::<(), Refusal>(())
+/// ```
+#[derive(Debug, Clone)]
+pub struct Spu<M = Vec<u8>> {
+    state: State,
+    ram: M,
+    marks: M,
+}
+
+impl Spu {
+    /// A fresh chip that owns its memory: RAM and marks are zero.
+    pub fn new(size: Size) -> Spu {
+        Spu { state: State::new(size), ram: vec![0; size.ram_bytes()], marks: vec![0; size.marks_bytes()] }
+    }
+}
+
+impl<M: AsRef<[u8]> + AsMut<[u8]>> Spu<M> {
+    /// A chip over memory that stands elsewhere. RAM or marks of other lengths than the state's size asks are refused.
+    ///
+    /// ```
+    /// use tenonwhisk::{Refusal, Size, Spu, State};
+    ///
+    /// let (mut ram, mut marks) = ([0; 65536], [0; 4096]);
+    /// let mut spu = Spu::with_memory(State::new(Size::K64), &mut ram[..], &mut marks[..])?;
+    /// spu.tick(0, 0)?;
+    /// let (state, ..) = spu.into_parts();
+    /// assert_eq!(marks[0], 1); // the tick captured a CD sample at address 0
+    /// assert_eq!(Spu::with_memory(state, &mut ram[1..], &mut marks[..]).unwrap_err(), Refusal::Memory);
+    /// # Ok::<(), Refusal>(())
+    /// ```
+    pub fn with_memory(state: State, ram: M, marks: M) -> Result<Spu<M>, Refusal> {
+        let size = state.size();
+        if ram.as_ref().len() != size.ram_bytes() || marks.as_ref().len() != size.marks_bytes() {
+            return Err(Refusal::Memory);
+        }
+        Ok(Spu { state, ram, marks })
+    }
+
+    /// Gives back state, RAM and marks.
+    pub fn into_parts(self) -> (State, M, M) {
+        (self.state, self.ram, self.marks)
+    }
+
+    /// The state, to look at or to clone.
+    pub fn state(&self) -> &State {
+        &self.state
+    }
+
+    /// Goes on from another state, such as one that was saved. One of another size is refused.
+    pub fn set_state(&mut self, state: State) -> Result<(), Refusal> {
+        if state.size() != self.state.size() {
+            return Err(Refusal::Memory);
+        }
+        self.state = state;
+        Ok(())
+    }
+
+    /// Sound RAM.
+    pub fn ram(&self) -> &[u8] {
+        self.ram.as_ref()
+    }
+
+    /// Sound RAM, to be changed past the chip: such bytes are loaded only if [`Spu::marks_mut`] says so.
+    pub fn ram_mut(&mut self) -> &mut [u8] {
+        self.ram.as_mut()
+    }
+
+    /// The marks.
+    pub fn marks(&self) -> &[u8] {
+        self.marks.as_ref()
+    }
+
+    /// The marks, to be changed past the chip.
+    pub fn marks_mut(&mut self) -> &mut [u8] {
+        self.marks.as_mut()
+    }
+
+    /// Whether what is heard may rest on bytes of sound RAM that nobody loaded. It stays until a reset.
+    pub fn doubt(&self) -> bool {
+        self.state.doubt()
+    }
+
+    /// Ticks since the state was made or reset, modulo 2^32.
+    pub fn tick_number(&self) -> u32 {
+        self.state.tick_number()
+    }
+
+    /// The state as made; RAM and marks stay.
+    pub fn reset(&mut self) {
+        self.state.reset();
+    }
+
+    /// Writes the register at an offset from 1F801C00h.
+    pub fn write(&mut self, offset: u32, value: u16) -> Result<(), Refusal> {
+        self.state.write(offset, value)
+    }
+
+    /// Reads the register at an offset from 1F801C00h.
+    pub fn read(&self, offset: u32) -> Result<u16, Refusal> {
+        self.state.read(offset)
+    }
+
+    /// Moves 1 to 32 halfwords to sound RAM, at the transfer address, and marks them.
+    pub fn transfer_in(&mut self, values: &[u16]) -> Result<Moved, Refusal> {
+        moved(ffi::transfer_in(self.state.bytes_mut(), self.ram.as_mut(), self.marks.as_mut(), values))
+    }
+
+    /// Moves 1 to 32 halfwords from sound RAM, at the transfer address: as many as `out` holds.
+    pub fn transfer_out(&mut self, out: &mut [u16]) -> Result<Moved, Refusal> {
+        moved(ffi::transfer_out(self.state.bytes_mut(), self.ram.as_ref(), self.marks.as_ref(), out))
+    }
+
+    /// One tick, 1/44100 s, of a pair of CD samples.
+    pub fn tick(&mut self, cd_left: i16, cd_right: i16) -> Result<Ticked<i16>, Refusal> {
+        let state = self.state.bytes_mut();
+        ticked(ffi::tick(state, self.ram.as_mut(), self.marks.as_mut(), cd_left, cd_right))
+    }
+
+    /// One tick as [`Spu::tick`], each sample divided by 32768.
+    pub fn tick_floats(&mut self, cd_left: i16, cd_right: i16) -> Result<Ticked<f32>, Refusal> {
+        let state = self.state.bytes_mut();
+        ticked(ffi::tick_floats(state, self.ram.as_mut(), self.marks.as_mut(), cd_left, cd_right))
+    }
+
+    /// A tick for each pair of `out` (left, right, left, ..), of as many pairs of CD samples.
+    pub fn run(&mut self, cd: &[i16], out: &mut [i16]) -> Result<Ran, Refusal> {
+        ran(ffi::run(self.state.bytes_mut(), self.ram.as_mut(), self.marks.as_mut(), cd, out))
+    }
+
+    /// A run as [`Spu::run`], with each sample divided by 32768 in `floats` beside.
+    pub fn run_floats(&mut self, cd: &[i16], out: &mut [i16], floats: &mut [f32]) -> Result<Ran, Refusal> {
+        ran(ffi::run_floats(self.state.bytes_mut(), self.ram.as_mut(), self.marks.as_mut(), cd, out, floats))
+    }
+
+    /// The sixteen bytes of the block at an address of sound RAM, a multiple of 8: the chip's own RAM, not a copy.
+    ///
+    /// A view is a borrow, so the chip cannot go on while it is held:
+    ///
+    /// ```compile_fail,E0502
+    /// # use tenonwhisk::{Size, Spu};
+    /// let mut spu = Spu::new(Size::K64);
+    /// let view = spu.block_view(0).unwrap();
+    /// spu.tick(0, 0).unwrap();
+    /// println!("{view:?}");
+    /// ```
+    ///
+    /// nor does it outlive the memory:
+    ///
+    /// ```compile_fail,E0597
+    /// # use tenonwhisk::{Size, Spu};
+    /// let view = {
+    ///     let spu = Spu::new(Size::K64);
+    ///     spu.block_view(0).unwrap()
+    /// };
+    /// println!("{view:?}");
+    /// ```
+    pub fn block_view(&self, address: u32) -> Result<&[u8; 16], Refusal> {
+        let ram = self.ram.as_ref();
+        Refusal::check(ffi::view_number(self.state.as_bytes(), ram, address), ())?;
+        let at = usize::try_from(address).map_err(|_| Refusal::Address)?;
+        ram.get(at..).and_then(<[u8]>::first_chunk).ok_or(Refusal::Address)
+    }
+}
+
+fn moved(moved: ffi::Moved) -> Result<Moved, Refusal> {
+    Refusal::check(moved.number, Moved { count: moved.count as usize, irq: moved.irq, doubt: moved.doubt })
+}
+
+fn ticked<S>(ticked: ffi::Ticked<S>) -> Result<Ticked<S>, Refusal> {
+    let ffi::Ticked { number, irq, doubt, left, right } = ticked;
+    Refusal::check(number, Ticked { left, right, irq, doubt })
+}
+
+fn ran(ran: ffi::Ran) -> Result<Ran, Refusal> {
+    let tick = |tick| (tick < ran.count).then_some(tick);
+    Refusal::check(ran.number, Ran { count: ran.count, irq: tick(ran.irq), doubt: tick(ran.doubt) })
+}

@@ -1,0 +1,226 @@
+//! The API as a host uses it.
+
+use std::thread;
+
+use tenonwhisk::{Moved, Ran, Refusal, Size, Spu, State};
+
+const PAIRS: usize = 600;
+
+/// Registers, by offset and value, of a voice that plays unit 200h at once and as loud as it gets.
+const VOICE: [(u32, u16); 7] =
+    [(0x180, 0x3FFF), (0x182, 0x3FFF), (0x0, 0x3FFF), (0x2, 0x1FFF), (0x4, 0x1000), (0x6, 0x200), (0x8, 0x000F)];
+
+/// A block that goes on to the next.
+const BLOCK: [u16; 8] = [0x0404, 0x1234, 0x5678, 0x9ABC, 0xDEF0, 0x0FED, 0xCBA9, 0x8765];
+
+fn write_all(spu: &mut Spu, settings: &[(u32, u16)]) {
+    for &(offset, value) in settings {
+        spu.write(offset, value).unwrap();
+    }
+}
+
+fn apply_control(spu: &mut Spu, control: u16) {
+    spu.write(0x1AA, control).unwrap();
+    spu.tick(0, 0).unwrap();
+}
+
+/// One voice plays `blocks` blocks, then what nobody loaded; the interrupt comes when capture reaches 100h.
+fn composed(size: Size, blocks: usize) -> Spu {
+    let mut spu = Spu::new(size);
+    apply_control(&mut spu, 0xC010);
+    spu.write(0x1A6, 0x200).unwrap();
+    for _ in 0..blocks {
+        spu.transfer_in(&BLOCK).unwrap();
+    }
+    write_all(&mut spu, &VOICE);
+    write_all(&mut spu, &[(0x1A4, 0x20), (0x1AA, 0xC051), (0x1B0, 0x4000), (0x188, 1)]);
+    spu
+}
+
+fn cd() -> Vec<i16> {
+    (0..2 * PAIRS).map(|k| (k * 7919 % 65536) as u16 as i16).collect()
+}
+
+fn play(spu: &mut Spu) -> (Vec<i16>, Ran) {
+    let mut out = vec![0; 2 * PAIRS];
+    let ran = spu.run(&cd(), &mut out).unwrap();
+    (out, ran)
+}
+
+fn assert_same(a: &Spu, b: &Spu) {
+    assert_eq!(a.state(), b.state());
+    assert!(a.ram() == b.ram() && a.marks() == b.marks());
+}
+
+#[test]
+fn a_fresh_chip() {
+    for size in [Size::K64, Size::K512] {
+        let spu = Spu::new(size);
+        assert_eq!(spu.state(), &State::new(size));
+        assert_eq!((spu.state().size(), spu.tick_number(), spu.doubt()), (size, 0, false));
+        assert_eq!((spu.ram().len(), spu.marks().len()), (size.ram_bytes(), size.marks_bytes()));
+    }
+}
+
+#[test]
+fn registers() {
+    let mut spu = Spu::new(Size::K64);
+    spu.write(0x180, 0x1234).unwrap();
+    assert_eq!(spu.read(0x180), Ok(0x1234));
+    assert_eq!(spu.read(0x1B8), Ok(0x2468));
+    let before = spu.state().clone();
+    assert_eq!(spu.write(0x181, 0), Err(Refusal::Offset));
+    assert_eq!(spu.write(0x1AE, 0), Err(Refusal::ReadOnly));
+    assert_eq!(spu.write(0x180, 0x8000), Err(Refusal::NotCarried));
+    assert_eq!(spu.read(0x200), Err(Refusal::Offset));
+    assert_eq!(spu.read(0x1A8), Err(Refusal::NotCarried));
+    assert_eq!(spu.state(), &before);
+}
+
+#[test]
+fn transfers() {
+    let mut spu = Spu::new(Size::K64);
+    let values: Vec<u16> = (1..=33).collect();
+    let mut out = [0xA5A5; 33];
+    assert_eq!(spu.transfer_in(&values[..32]), Err(Refusal::Mode));
+    apply_control(&mut spu, 0xC020);
+    spu.write(0x1A6, 0x200).unwrap();
+    assert_eq!(spu.transfer_in(&[]), Err(Refusal::Count));
+    assert_eq!(spu.transfer_in(&values), Err(Refusal::Count));
+    assert_eq!(spu.transfer_in(&values[..32]), Ok(Moved { count: 32, irq: false, doubt: false }));
+    assert_eq!(spu.transfer_out(&mut out), Err(Refusal::Mode));
+    apply_control(&mut spu, 0xC030);
+    spu.write(0x1A6, 0x200).unwrap();
+    assert_eq!(spu.transfer_out(&mut out), Err(Refusal::Count));
+    assert_eq!(out, [0xA5A5; 33]);
+    assert_eq!(spu.transfer_out(&mut out[..32]), Ok(Moved { count: 32, irq: false, doubt: false }));
+    assert_eq!(out[..32], values[..32]);
+    assert_eq!(spu.transfer_out(&mut out[..1]), Ok(Moved { count: 1, irq: false, doubt: true }));
+    assert!(spu.doubt());
+}
+
+#[test]
+fn a_run_is_its_ticks() {
+    for size in [Size::K64, Size::K512] {
+        let (mut run, mut single, mut floats, mut single_floats) =
+            (composed(size, 4), composed(size, 4), composed(size, 4), composed(size, 4));
+        let (out, ran) = play(&mut run);
+        let (mut out_beside, mut as_floats) = (vec![0; 2 * PAIRS], vec![0.0; 2 * PAIRS]);
+        assert_eq!(floats.run_floats(&cd(), &mut out_beside, &mut as_floats), Ok(ran));
+        assert_eq!(out_beside, out);
+        let (mut irq, mut doubt) = (None, None);
+        for (k, cd) in cd().chunks(2).enumerate() {
+            let ticked = single.tick(cd[0], cd[1]).unwrap();
+            assert_eq!([ticked.left, ticked.right], out[2 * k..2 * k + 2]);
+            irq = irq.or(ticked.irq.then_some(k));
+            doubt = doubt.or(ticked.doubt.then_some(k));
+            let ticked = single_floats.tick_floats(cd[0], cd[1]).unwrap();
+            assert_eq!([ticked.left, ticked.right], as_floats[2 * k..2 * k + 2]);
+            assert_eq!(ticked.left, f32::from(out[2 * k]) / 32768.0);
+            assert_eq!(ticked.right, f32::from(out[2 * k + 1]) / 32768.0);
+        }
+        assert_eq!(ran, Ran { count: PAIRS, irq, doubt });
+        assert!(irq.is_some() && doubt.is_some() && out.iter().any(|&sample| sample != 0));
+        for other in [&single, &floats, &single_floats] {
+            assert_same(&run, other);
+        }
+    }
+}
+
+#[test]
+fn buffers_of_a_run() {
+    let mut spu = composed(Size::K64, 1);
+    let before = spu.clone();
+    let (mut out, mut floats) = ([77; 6], [7.5; 6]);
+    assert_eq!(spu.run(&[0; 4], &mut out), Err(Refusal::Buffers));
+    assert_eq!(spu.run(&[0; 5], &mut out[..5]), Err(Refusal::Buffers));
+    assert_eq!(spu.run_floats(&[0; 6], &mut out, &mut floats[..4]), Err(Refusal::Buffers));
+    assert_eq!((out, floats), ([77; 6], [7.5; 6]));
+    assert_same(&spu, &before);
+    assert_eq!(spu.run(&[], &mut []), Ok(Ran { count: 0, irq: None, doubt: None }));
+}
+
+#[test]
+fn lent_memory_is_as_good_as_owned() {
+    let mut owned = composed(Size::K64, 4);
+    let (state, mut ram, mut marks) = owned.clone().into_parts();
+    let mut lent = Spu::with_memory(state, &mut ram[..], &mut marks[..]).unwrap();
+    let mut out = vec![0; 2 * PAIRS];
+    let ran = lent.run(&cd(), &mut out).unwrap();
+    let (state, ..) = lent.into_parts();
+    assert_eq!(play(&mut owned), (out, ran));
+    assert_same(&owned, &Spu::with_memory(state, ram, marks).unwrap());
+}
+
+#[test]
+fn memory_of_another_size() {
+    let (mut ram, mut marks) = (vec![0; 0x10000], vec![0; 0x1000]);
+    let large = State::new(Size::K512);
+    assert_eq!(Spu::with_memory(large.clone(), &mut ram[..], &mut marks[..]).unwrap_err(), Refusal::Memory);
+    let small = State::new(Size::K64);
+    assert_eq!(Spu::with_memory(small.clone(), &mut ram[..], &mut marks[1..]).unwrap_err(), Refusal::Memory);
+    let mut spu = Spu::with_memory(small, &mut ram[..], &mut marks[..]).unwrap();
+    assert_eq!(spu.set_state(large), Err(Refusal::Memory));
+}
+
+#[test]
+fn a_saved_state_goes_on_the_same() {
+    let mut spu = composed(Size::K64, 4);
+    play(&mut spu);
+    let saved = spu.state().as_bytes().to_vec();
+    let mut restored = spu.clone();
+    restored.reset();
+    assert_eq!(restored.state(), &State::new(Size::K64));
+    restored.set_state(State::from_bytes(&saved).unwrap()).unwrap();
+    assert_eq!(play(&mut spu), play(&mut restored));
+    assert_same(&spu, &restored);
+}
+
+#[test]
+fn damaged_states() {
+    let good = composed(Size::K64, 1).state().clone();
+    for damaged in [0, 3, 6, 520, 2473] {
+        let mut bytes = *good.as_bytes();
+        bytes[damaged] ^= 0x80;
+        assert_eq!(State::from_bytes(&bytes), Err(Refusal::State), "byte {damaged}");
+    }
+    for length in [0, 1, State::BYTES - 1] {
+        assert_eq!(State::try_from(&good.as_bytes()[..length]), Err(Refusal::State));
+    }
+}
+
+#[test]
+fn block_views() {
+    let spu = composed(Size::K64, 2);
+    let view = spu.block_view(0x1000).unwrap();
+    assert_eq!(view.as_ptr(), spu.ram()[0x1000..].as_ptr());
+    assert_eq!(view[..2], BLOCK[0].to_le_bytes());
+    assert!(spu.block_view(0xFFF0).is_ok());
+    for address in [1, 4, 0xFFF8, 0x10000, 0xFFFF_FFF8] {
+        assert_eq!(spu.block_view(address), Err(Refusal::Address));
+    }
+}
+
+#[test]
+fn chips_on_two_threads() {
+    let alone = [4, 9].map(|blocks| play(&mut composed(Size::K64, blocks)));
+    let beside = [4, 9].map(|blocks| thread::spawn(move || play(&mut composed(Size::K64, blocks))));
+    assert_ne!(alone[0], alone[1]);
+    assert_eq!(beside.map(|thread| thread.join().unwrap()), alone);
+}
+
+#[test]
+fn bytes_loaded_past_the_chip() {
+    let mut spu = composed(Size::K64, 1);
+    spu.marks_mut().fill(0xFF);
+    assert_eq!(play(&mut spu).1.doubt, None);
+    spu.ram_mut()[0x8000] = 0x42;
+    assert_eq!(spu.block_view(0x8000).unwrap()[0], 0x42);
+}
+
+#[test]
+fn refusals_have_numbers_and_words() {
+    assert_eq!((Refusal::Memory.number(), Refusal::Buffers.number()), (1, 9));
+    let error: Box<dyn std::error::Error> = Box::new(Refusal::Count);
+    assert_eq!(error.to_string(), "a transfer moves 1 to 32 halfwords");
+}
