@@ -34,7 +34,8 @@ extern "C" {
 
 /* ---- a state */
 
-/* A fresh state for a sound RAM of size bytes. Of another size than the two it gives 1 and the state for 65,536. */
+/* A fresh state for a sound RAM of size bytes. Of another size than the two it gives 1 and the state for 65,536. Of another state_len than
+ * TENONWHISK_STATE_BYTES it writes nothing, and gives 2 (or 1, of another size too). */
 uint8_t tenonwhisk_make(uint32_t size, uint8_t *state, size_t state_len);
 
 /* The state as made: sound RAM and marks stay. */
@@ -104,7 +105,7 @@ struct tenonwhisk_ticked_floats tenonwhisk_tick_floats(uint8_t *state, size_t st
 struct tenonwhisk_ran {
     uint8_t number;
     size_t count; /* ticks */
-    size_t irq;   /* the tick, from 0, that raised the interrupt (the last, if more than one did); count where none did */
+    size_t irq;   /* the tick, from 0, that raised the interrupt; count where none did. Only register writes clear it, so no second one can */
     size_t doubt; /* the tick that raised the doubt; count where none did */
 };
 

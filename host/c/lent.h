@@ -17,8 +17,7 @@ struct lent {
     uint32_t address; /* of a view */
 };
 
-/* A fresh state with zero RAM and marks; the other buffers are of lengths that are accepted, and hold A5h everywhere.
- */
+/* A fresh state with zero RAM and marks; the other buffers are of lengths that are accepted, and hold A5h. */
 void lent_make(struct lent *lent, uint32_t size);
 void lent_free(struct lent *lent);
 void lent_copy(struct lent *to, const struct lent *from);

@@ -22,8 +22,7 @@ struct lines {
 };
 
 /* Reads what stands before the next LF, or a last piece without LF that is not empty. It stays until the next call.
- * False at the end of the input and after an error, which ferror(file) tells or, for want of memory, feof(file) does
- * not. */
+ * False where no line could be read: at the end of the input feof(file) holds, after an error it does not. */
 bool lines_next(struct lines *lines, struct piece *line);
 void lines_free(struct lines *lines);
 

@@ -23,9 +23,8 @@ static const char help[] =
     "  s V ..           move halfwords to sound RAM at the transfer address (hex, 1 to 4 digits)\n"
     "  t N              sound for N ticks of 1/44100 s (decimal, up to 65535)\n"
     "\n"
-    "A line that is bad or refused is reported by its number and left out; the others are rendered. The first tick "
-    "from\n"
-    "which the sound may rest on memory that nobody loaded is reported too.\n"
+    "A line that is bad or refused is reported by its number and left out; the others are rendered.\n"
+    "The first tick from which the sound may rest on memory that nobody loaded is reported too.\n"
     "\n"
     "Exit status:\n"
     "  0  all is rendered and nothing was reported\n"
@@ -167,7 +166,7 @@ static void release(struct render *render)
 
 static enum status finish(const struct render *render, const char *out)
 {
-    fprintf(stderr, "%s: %.3f s, %lu lines bad or refused\n", out, seconds(render->wav.pairs), render->reported);
+    fprintf(stderr, "%s: %.3f s, lines bad or refused: %lu\n", out, seconds(render->wav.pairs), render->reported);
     if (render->reported > 0)
         return LINES_REPORTED;
     return render->doubt ? IN_DOUBT : ALL_GOOD;

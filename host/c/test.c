@@ -59,14 +59,14 @@ static void must_make(struct core *core, uint32_t size)
 }
 
 struct setting {
-    uint16_t offset;
-    uint16_t value;
+    uint32_t offset;
+    uint32_t value;
 };
 
 static void write_all(struct core *core, const struct setting *settings, size_t count)
 {
     for (size_t k = 0; k < count; k++)
-        check(core_write(core, settings[k].offset, settings[k].value) == 0, "write %X", settings[k].offset);
+        check(core_write(core, settings[k].offset, (uint16_t)settings[k].value) == 0, "write");
 }
 
 #define WRITE_ALL(core, ...)                                                                                           \
@@ -74,7 +74,7 @@ static void write_all(struct core *core, const struct setting *settings, size_t 
               sizeof(const struct setting[]){__VA_ARGS__} / sizeof(struct setting))
 
 /* SPUCNT, and a tick, after which its mode is applied */
-static void apply_control(struct core *core, uint16_t control)
+static void apply_control(struct core *core, uint32_t control)
 {
     WRITE_ALL(core, {0x1AA, control});
     core_tick(core, 0, 0);
@@ -97,12 +97,9 @@ static void load_sample(struct core *core, uint64_t *seed, bool looped)
 
 static void start_voices(struct core *core, uint64_t *seed)
 {
-    for (uint32_t n = 0; n < 24; n++) {
-        uint16_t at = (uint16_t)(0x10 * n);
-        WRITE_ALL(core, {at, (uint16_t)below(seed, 0x8000)}, {(uint16_t)(at + 2), (uint16_t)below(seed, 0x8000)},
-                  {(uint16_t)(at + 4), (uint16_t)(0x800 + below(seed, 0x1000))}, {(uint16_t)(at + 6), 0x200},
-                  {(uint16_t)(at + 8), 0x80FF}, {(uint16_t)(at + 10), 0x1FC0});
-    }
+    for (uint32_t at = 0; at < 0x180; at += 0x10)
+        WRITE_ALL(core, {at, below(seed, 0x8000)}, {at + 2, below(seed, 0x8000)}, {at + 4, 0x800 + below(seed, 0x1000)},
+                  {at + 6, 0x200}, {at + 8, 0x80FF}, {at + 10, 0x1FC0});
     WRITE_ALL(core, {0x190, 0x0A0A}, {0x194, 0x0400}, {0x188, 0xFFFF}, {0x18A, 0xFF});
 }
 
@@ -110,10 +107,10 @@ static void start_voices(struct core *core, uint64_t *seed)
 static void start_reverb(struct core *core, uint64_t *seed)
 {
     memset(core->marks, 0xFF, core->size / 16);
-    WRITE_ALL(core, {0x1A2, (uint16_t)(core->size / 8 - 0x800)}, {0x184, 0x7FFF}, {0x186, 0x5000}, {0x198, 0xFFFF},
-              {0x19A, 0xFF}, {0x1B0, 0x4000}, {0x1B2, 0x6000}, {0x1A4, 0x40});
-    for (uint16_t offset = 0x1C0; offset < 0x200; offset += 2)
-        WRITE_ALL(core, {offset, (uint16_t)below(seed, 0x8000)});
+    WRITE_ALL(core, {0x1A2, core->size / 8 - 0x800}, {0x184, 0x7FFF}, {0x186, 0x5000}, {0x198, 0xFFFF}, {0x19A, 0xFF},
+              {0x1B0, 0x4000}, {0x1B2, 0x6000}, {0x1A4, 0x40});
+    for (uint32_t offset = 0x1C0; offset < 0x200; offset += 2)
+        WRITE_ALL(core, {offset, below(seed, 0x8000)});
     WRITE_ALL(core, {0x1AA, 0xC0C5});
 }
 
@@ -274,6 +271,82 @@ static void test_views(uint32_t size)
         lent.address = bad[k];
         expect(&lent, VIEW, 8);
     }
+    lent_free(&lent);
+}
+
+/* ---- ranges of a state's fields, by their places in its bytes */
+
+static void put(struct lent *lent, size_t at, size_t bytes, uint32_t value)
+{
+    for (size_t k = 0; k < bytes; k++)
+        lent_state(lent)[at + k] = (uint8_t)(value >> 8 * k);
+}
+
+struct range {
+    size_t at;
+    size_t bytes;
+    uint32_t good;
+    uint32_t bad;
+};
+
+static void test_range(struct lent *lent, struct range range)
+{
+    struct lent changed;
+    lent_copy(&changed, lent);
+    put(&changed, range.at, range.bytes, range.good);
+    expect(&changed, STATUS, 0);
+    expect_all_as_ruled(&changed);
+    put(&changed, range.at, range.bytes, range.bad);
+    for (int which = 0; which < CALLS; which++)
+        expect(&changed, which, 2);
+    lent_free(&changed);
+}
+
+static void test_voice_ranges(struct lent *lent, size_t voice, uint32_t size)
+{
+    const struct range ranges[] = {
+        {voice, 1, 5, 6},                   /* phase */
+        {voice + 1, 2, 0x7FFF, 0x8000},     /* envelope */
+        {voice + 3, 4, 0x400000, 0x400001}, /* wait */
+        {voice + 7, 4, size - 8, size},     /* address */
+        {voice + 7, 4, 0, 4},               /* a multiple of 8 */
+        {voice + 13, 2, 0xFFF, 0x1000},     /* pitch counter */
+        {voice + 15, 1, 27, 28},            /* sample index */
+        {voice + 16, 1, 1, 2},              /* whether a block is loaded */
+        {voice + 80, 1, 1, 2},              /* whether it has ended */
+    };
+    for (size_t k = 0; k < sizeof ranges / sizeof *ranges; k++)
+        test_range(lent, ranges[k]);
+    for (uint32_t phase = 1; phase <= 4; phase++) {
+        put(lent, voice, 1, phase);
+        test_range(lent, (struct range){voice + 3, 4, 1, 0}); /* it waits at least 1 */
+    }
+    put(lent, voice, 1, 0);
+}
+
+static void test_ranges(uint32_t size)
+{
+    const struct range ranges[] = {
+        {0, 1, 'T', 'U'},            /* tag */
+        {2466, 4, 0x20000, 0x20001}, /* noise timer */
+        {2472, 1, 1, 2},             /* latch */
+        {2473, 1, 1, 2},             /* doubt */
+        {2474, 2, 0x3FE, 0x400},     /* capture place */
+        {2474, 2, 0, 1},             /* even */
+        {2476, 4, size - 2, size},   /* reverb place */
+        {2476, 4, 0x10, 0x11},       /* even */
+        {2476, 4, 0x10, 0x0E},       /* from its base on */
+        {2480, 1, 1, 2},             /* the reverb's turn */
+        {2485, 4, size - 2, size},   /* transfer address */
+        {2485, 4, 0, 1},             /* even */
+    };
+    struct lent lent;
+    lent_make(&lent, size);
+    tenonwhisk_write(lent_state(&lent), TENONWHISK_STATE_BYTES, 0x1A2, 2); /* the reverb's base is 10h */
+    for (size_t k = 0; k < sizeof ranges / sizeof *ranges; k++)
+        test_range(&lent, ranges[k]);
+    test_voice_ranges(&lent, 520, size);
+    test_voice_ranges(&lent, 520 + 23 * 81, size);
     lent_free(&lent);
 }
 
@@ -549,9 +622,8 @@ static void test_lowest_mix(void)
     apply_control(&core, 0xC010);
     WRITE_ALL(&core, {0x180, 0x4000}, {0x182, 0x3FFF}, {0x1A6, 0x200});
     core_transfer_in(&core, lowest, 8);
-    for (uint16_t at = 0; at <= 0x10; at += 0x10)
-        WRITE_ALL(&core, {at, 0x3FFF}, {(uint16_t)(at + 2), 0x3FFF}, {(uint16_t)(at + 4), 0x1000},
-                  {(uint16_t)(at + 6), 0x200}, {(uint16_t)(at + 8), 0x000F});
+    for (uint32_t at = 0; at <= 0x10; at += 0x10)
+        WRITE_ALL(&core, {at, 0x3FFF}, {at + 2, 0x3FFF}, {at + 4, 0x1000}, {at + 6, 0x200}, {at + 8, 0x000F});
     WRITE_ALL(&core, {0x188, 3});
     struct tenonwhisk_ticked ticked = {0};
     for (int k = 0; k < 12; k++)
@@ -620,14 +692,19 @@ static void test_wav_limit(void)
     check(wav_close(&wav) == NULL, "and the file is good");
 }
 
+static void test_size(uint32_t size)
+{
+    test_lengths(size);
+    test_views(size);
+    test_ranges(size);
+    test_reset(size);
+}
+
 int main(int argc, char **argv)
 {
     test_make();
-    for (uint32_t size = SMALL; size <= LARGE; size += LARGE - SMALL) {
-        test_lengths(size);
-        test_views(size);
-        test_reset(size);
-    }
+    test_size(SMALL);
+    test_size(LARGE);
     test_registers();
     test_transfers();
     test_run_buffers();

@@ -39,7 +39,8 @@ pub struct Ran {
 ///
 /// `M` is what RAM and marks are kept in: `Vec<u8>` if the chip owns them ([`Spu::new`]), `&mut [u8]` if they are lent
 /// ([`Spu::with_memory`]), or any other kind of bytes. Bit `h % 8` of the marks' byte `h / 8` says that the halfword of
-/// RAM at address `2 * h` is loaded.
+/// RAM at address `2 * h` is loaded. Their lengths are checked once, so that a tick is refused only if an `M` of an
+/// unusual kind changes its length.
 ///
 /// Nothing is shared between chips: any number of them run side by side, on any threads.
 ///

@@ -24,8 +24,8 @@ The lines of a script:
   s V ..           move halfwords to sound RAM at the transfer address (hex, 1 to 4 digits)
   t N              sound for N ticks of 1/44100 s (decimal, up to 65535)
 
-A line that is bad or refused is reported by its number and left out; the others are rendered. The first tick from
-which the sound may rest on memory that nobody loaded is reported too.
+A line that is bad or refused is reported by its number and left out; the others are rendered.
+The first tick from which the sound may rest on memory that nobody loaded is reported too.
 
 Exit status:
   0  all is rendered and nothing was reported
@@ -186,7 +186,7 @@ fn render_and_report(script: &Path, out: &Path) -> u8 {
     match render(script, out) {
         Ok(summary) => {
             let Summary { seconds, reported, .. } = summary;
-            eprintln!("{}: {seconds:.3} s, {reported} lines bad or refused", out.display());
+            eprintln!("{}: {seconds:.3} s, lines bad or refused: {reported}", out.display());
             return summary.status();
         }
         Err(Trouble::Reading(error)) => eprintln!("cannot read {}: {error}", script.display()),
