@@ -1,4 +1,5 @@
-/* test [IMAGES]: tests through the C interface; IMAGES damaged states are tried (20,000 if not given). */
+/* test [IMAGES]: tests through the C interface; IMAGES damaged states are tried, 20,000 if not given, and some more of
+ * the large sound RAM. */
 #include "core.h"
 #include "lent.h"
 #include "wav.h"
@@ -388,21 +389,21 @@ static void damage(uint64_t *seed, struct lent *lent)
     }
 }
 
-static void test_damaged_states(unsigned long images)
+static void test_damaged_states(uint32_t size, unsigned long images)
 {
     uint64_t seed = 1;
     struct core core;
     struct lent lent;
-    must_make_composed(&core, SMALL, 1);
-    lent_make(&lent, SMALL);
-    memcpy(lent.buffers[RAM].data, core.ram, SMALL);
+    must_make_composed(&core, size, 1);
+    lent_make(&lent, size);
+    memcpy(lent.buffers[RAM].data, core.ram, size);
     for (; images > 0; images--) {
         lent_resize(&lent, STATE, TENONWHISK_STATE_BYTES);
         memcpy(lent_state(&lent), core.state, sizeof core.state);
         damage(&seed, &lent);
         lent.offset = 2 * below(&seed, 0x110);
         lent.value = (uint16_t)random32(&seed);
-        lent.address = 8 * below(&seed, SMALL / 8 + 2);
+        lent.address = 8 * below(&seed, size / 8 + 2);
         expect_all_as_ruled(&lent);
     }
     lent_free(&lent);
@@ -702,13 +703,15 @@ static void test_size(uint32_t size)
 
 int main(int argc, char **argv)
 {
+    unsigned long images = argc > 1 ? strtoul(argv[1], NULL, 10) : IMAGES;
     test_make();
     test_size(SMALL);
     test_size(LARGE);
     test_registers();
     test_transfers();
     test_run_buffers();
-    test_damaged_states(argc > 1 ? strtoul(argv[1], NULL, 10) : IMAGES);
+    test_damaged_states(SMALL, images);
+    test_damaged_states(LARGE, images / 100);
     test_seen();
     test_tick_number();
     test_runs();

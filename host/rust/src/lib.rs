@@ -2,6 +2,9 @@
 //!
 //! [`Spu`] is the chip with its sound RAM, owned or lent; [`State`] is everything else in it, as plain bytes. Every call
 //! that may be refused gives a [`Refusal`], and then has changed nothing.
+//!
+//! The crate links the archive that the environment variable `TENONWHISK_LIB` names when it is built, or else
+//! `target/staticlib/libtenonwhisk.a` of its repository, which `rt staticlib tenonwhisk` makes.
 
 #![deny(missing_docs)]
 #![deny(unsafe_code)]

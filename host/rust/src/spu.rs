@@ -165,11 +165,15 @@ impl<M: AsRef<[u8]> + AsMut<[u8]>> Spu<M> {
     }
 
     /// Moves 1 to 32 halfwords to sound RAM, at the transfer address, and marks them.
+    ///
+    /// SPUCNT's transfer mode (bits 5-4) has to have been 1 or 2 at the last tick.
     pub fn transfer_in(&mut self, values: &[u16]) -> Result<Moved, Refusal> {
         moved(ffi::transfer_in(self.state.bytes_mut(), self.ram.as_mut(), self.marks.as_mut(), values))
     }
 
     /// Moves 1 to 32 halfwords from sound RAM, at the transfer address: as many as `out` holds.
+    ///
+    /// SPUCNT's transfer mode (bits 5-4) has to have been 3 at the last tick.
     pub fn transfer_out(&mut self, out: &mut [u16]) -> Result<Moved, Refusal> {
         moved(ffi::transfer_out(self.state.bytes_mut(), self.ram.as_ref(), self.marks.as_ref(), out))
     }

@@ -66,3 +66,18 @@ impl Wav {
         self.file.write_all(&header)
     }
 }
+
+#[cfg(test)]
+mod tests {
+    use super::*;
+
+    #[test]
+    fn no_more_pairs_than_a_file_counts() {
+        let mut wav = Wav::create(Path::new("/dev/null")).unwrap();
+        wav.pairs = MOST_PAIRS - 2;
+        wav.write(&[0; 2]).unwrap();
+        assert!(wav.write(&[0; 6]).unwrap_err().to_string().contains("6 hours and 45 minutes"));
+        assert_eq!(wav.pairs(), MOST_PAIRS);
+        wav.finish().unwrap();
+    }
+}
