@@ -82,19 +82,20 @@ static bool take_ticks(struct piece *line, struct ticks *ticks)
     return true;
 }
 
+static struct tick_report report_tick(const struct core *core, uint32_t tick, uint8_t number, bool irq, bool doubt)
+{
+    return (struct tick_report){number, tick, irq, doubt, core_status(core).doubt};
+}
+
 static void single_tick(struct core *core, struct ticks ticks, bool floats)
 {
-    struct tick_report report = {.tick = core_status(core).tick};
+    uint32_t tick = core_status(core).tick;
     if (floats) {
         struct tenonwhisk_ticked_floats ticked = core_tick_floats(core, ticks.cd_left, ticks.cd_right);
-        report.number = ticked.number, report.irq = ticked.irq, report.doubt = ticked.doubt;
-        report.state_doubt = core_status(core).doubt;
-        print_floats(report, ticked.left, ticked.right);
+        print_floats(report_tick(core, tick, ticked.number, ticked.irq, ticked.doubt), ticked.left, ticked.right);
     } else {
         struct tenonwhisk_ticked ticked = core_tick(core, ticks.cd_left, ticks.cd_right);
-        report.number = ticked.number, report.irq = ticked.irq, report.doubt = ticked.doubt;
-        report.state_doubt = core_status(core).doubt;
-        print_samples(report, ticked.left, ticked.right);
+        print_samples(report_tick(core, tick, ticked.number, ticked.irq, ticked.doubt), ticked.left, ticked.right);
     }
 }
 
