@@ -98,7 +98,7 @@ fn turn(
         place: r.place.0,
     };
     let x = tick::entering(regs, r.right, sums, left, right);
-    let out = reverb::turn(regs, ram, marks, area, tick::turning(regs, r.right), x, w);
+    let out = reverb_turn::turn(regs, ram, marks, area, tick::turning(regs, r.right), x, w);
     let reverb = after(size, base.0, r, out.value);
     let watch = out.watch;
     Turned { reverb, watch }
