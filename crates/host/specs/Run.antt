@@ -1,10 +1,12 @@
 -- A run of ticks, for hosts that want many at a time: n ticks, each on what the one before it left. Assumes nothing.
 use mathlib.Core.Bool.{cond, _||_, not}
-use mathlib.Core.List.{List, [], _∷_}
+use mathlib.Core.List.{List, [], _∷_, _++_, map}
 use Prim.Native.Nat.{ℕ, zero, suc, _+_, _*_, _/_, _%_}
 use lib.Dec.{eqb}
 use lib.ListN.{length, getD, set}
 use lib.IntN.{ℤ, pos}
+use lib.Ieee.{Float}
+use Rattle.stereo.specs.Float.{floatOf}
 use Rattle.chip.specs.declared.State.{State}
 use Rattle.tick.specs.declared.Pair.{Pair}
 use Rattle.runs.specs.Run.{Run}
@@ -54,9 +56,25 @@ pub record Outcome : Type 0 where
 abbrev pub startOf : State → List ℕ → List ℕ → List ℤ → ℕ → Run
 startOf s ram marks out none = record { state = s; ram = ram; marks = marks; out = out; irq = none; doubt = none }
 
-unfoldable pub ranOf : State → List ℕ → List ℕ → List ℤ → List ℤ → Outcome
-ranOf s ram marks cd out =
-    let n = firstOf (lentTests s (length ram) (length marks) (runTests (length cd) (length out))) in
+-- a run of the number n: its ticks where that is 0
+unfoldable pub numberedOf : ℕ → State → List ℕ → List ℕ → List ℤ → List ℤ → Outcome
+numberedOf n s ram marks cd out =
     let k = length out / 2 in
     cond (eqb n 0) (record { number = 0; count = k; run = ticksOf cd k (startOf s ram marks out k) })
     (record { number = n; count = 0; run = startOf s ram marks out 0 })
+
+unfoldable pub ranOf : State → List ℕ → List ℕ → List ℤ → List ℤ → Outcome
+ranOf s ram marks cd out = numberedOf (firstOf (lentTests s (length ram) (length marks) (runTests (length cd) (length out)))) s ram marks cd out
+
+-- ---- "Hosts may have the pair as 32-bit floats": the samples of the whole run, beside them
+
+pub record Floats : Type 0 where
+  pub ran : Outcome
+  pub floats : List Float
+
+-- 9: also where the floats' buffer is of another length
+unfoldable pub ranFloatsOf : State → List ℕ → List ℕ → List ℤ → List ℤ → List Float → Floats
+ranFloatsOf s ram marks cd out fs =
+    let n = firstOf (lentTests s (length ram) (length marks) (runTests (length fs) (length out) ++ runTests (length cd) (length out))) in
+    let o = numberedOf n s ram marks cd out in
+    record { ran = o; floats = cond (eqb n 0) (map floatOf (o .run .out)) fs }

@@ -22,7 +22,7 @@ run-requires c κs =
     let b = a .before .before .before in
     let e = a .run-number .ensures in
     let z = d .if1 .left in
-    (lent-all (b .args .s) _ _ _ e z, in-range _ (lent-ok (b .args .s) _ _ _ e z) (shaped _ (b .good .0)), run-equal (b .args .s) (now (b .args .ram)) (now (b .args .marks)) (now (b .args .cd)) (now (b .args .out)) e z)
+    (lent-all (b .args .s) _ _ _ e z, in-range _ (lent-ok (b .args .s) _ _ _ e z) (shaped _ (b .good .0)), run-equal (b .args .s) _ _ _ _ e z)
 
 same-length : tie.Need-same-length
 same-length c = search needs
