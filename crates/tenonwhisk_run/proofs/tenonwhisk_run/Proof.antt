@@ -1,9 +1,7 @@
-use mathlib.Core.Path.{refl}
 use borrow.Author.Needs.{needs}
-use Rattle.spu.specs.Step.{refusedOf}
-use Rattle.tenonwhisk.proofs.Kept.{image-fits, kept-none, kept}
-use Rattle.tenonwhisk.proofs.tenonwhisk_transfer_in.Statement.{statement}
-use Rattle.tenonwhisk.proofs.tenonwhisk_transfer_in.Tie as tie
+use Rattle.tenonwhisk.proofs.Kept.{image-fits, run-none, run-kept}
+use Rattle.tenonwhisk_run.proofs.tenonwhisk_run.Statement.{statement}
+use Rattle.tenonwhisk_run.proofs.tenonwhisk_run.Tie as tie
 
 load-requires : tie.Need-load-requires
 load-requires c κs = search needs
@@ -12,17 +10,16 @@ same-length : tie.Need-same-length
 same-length c = search needs
 
 returns : tie.Need-returns
-unfolding refusedOf
 returns c =
     let a = c .before .before in
-    kept-none _ (a .load .ensures) _ _ _ (c .if1 .taken)
+    run-none _ (a .load .ensures) _ _ _ _ (c .if1 .taken)
 
-transfer-in-requires : tie.Need-transfer-in-requires
-transfer-in-requires c κs = search needs
+run-requires : tie.Need-run-requires
+run-requires c κs = search needs
 
 keep-requires : tie.Need-keep-requires
 keep-requires c κs =
-    let a = c .before .before .before .before .before .before .before .before in
+    let a = c .before .before .before .before .before .before .before .before .before .before in
     let b = a .before .before in
     image-fits _ (b .load .ensures) (a .if1 .left)
 
@@ -35,24 +32,28 @@ same-length-3 c = search needs
 same-length-4 : tie.Need-same-length-4
 same-length-4 c = search needs
 
+same-length-5 : tie.Need-same-length-5
+same-length-5 c = search needs
+
 returns-2 : tie.Need-returns-2
 returns-2 c =
     let a = c .before .before in
-    let b = a .before .before .before .before .before .before in
-    let d = b .before .before .before in
+    let b = a .before .before .before .before .before .before .before in
+    let d = b .before .before .before .before in
     let e = d .before .before in
-    kept _ (e .load .ensures) _ _ _ (d .if1 .left) refl (b .transfer-in .ensures) (a .keep .ensures)
+    run-kept _ (e .load .ensures) _ _ _ _ (d .if1 .left) (b .run .ensures) (a .keep .ensures)
 
-pub tenonwhisk-transfer-in-spec : {M : Type 1} → statement M
-tenonwhisk-transfer-in-spec =
+pub tenonwhisk-run-spec : {M : Type 1} → statement M
+tenonwhisk-run-spec =
     tie.close
     (tie.spec
     load-requires
     same-length
     returns
-    transfer-in-requires
+    run-requires
     keep-requires
     same-length-2
     same-length-3
     same-length-4
+    same-length-5
     returns-2)

@@ -2,9 +2,9 @@ use mathlib.Core.Path.{refl}
 use borrow.Author.Needs.{needs}
 use mir.Facts.{toZ-ofZ}
 use Rattle.spu.specs.Step.{refusedOf}
 use Rattle.tenonwhisk.proofs.Kept.{image-fits, kept-none, kept}
-use Rattle.tenonwhisk.proofs.tenonwhisk_tick_floats.Statement.{statement}
-use Rattle.tenonwhisk.proofs.tenonwhisk_tick_floats.Tie as tie
+use Rattle.tenonwhisk_tick.proofs.tenonwhisk_tick_floats.Statement.{statement}
+use Rattle.tenonwhisk_tick.proofs.tenonwhisk_tick_floats.Tie as tie
 
 load-requires : tie.Need-load-requires
 load-requires c κs = search needs

@@ -1,9 +1,9 @@
 use mathlib.Core.Path.{refl}
 use borrow.Author.Needs.{needs}
 use Rattle.spu.specs.Step.{refusedOf}
 use Rattle.tenonwhisk.proofs.Kept.{image-fits, kept-none, kept}
-use Rattle.tenonwhisk.proofs.tenonwhisk_transfer_out.Statement.{statement}
-use Rattle.tenonwhisk.proofs.tenonwhisk_transfer_out.Tie as tie
+use Rattle.tenonwhisk_transfer.proofs.tenonwhisk_transfer_out.Statement.{statement}
+use Rattle.tenonwhisk_transfer.proofs.tenonwhisk_transfer_out.Tie as tie
 
 load-requires : tie.Need-load-requires
 load-requires c κs = search needs

@@ -1,7 +1,7 @@
 use borrow.Author.Needs.{needs}
 use Rattle.tenonwhisk.proofs.Kept.{status-no, status-yes}
-use Rattle.tenonwhisk.proofs.tenonwhisk_status.Statement.{statement}
-use Rattle.tenonwhisk.proofs.tenonwhisk_status.Tie as tie
+use Rattle.tenonwhisk_state.proofs.tenonwhisk_status.Statement.{statement}
+use Rattle.tenonwhisk_state.proofs.tenonwhisk_status.Tie as tie
 
 load-requires : tie.Need-load-requires
 load-requires c κs = search needs

@@ -1,7 +1,7 @@
 use borrow.Author.Needs.{needs}
-use Rattle.tenonwhisk.proofs.Kept.{image-fits, run-none, run-kept}
-use Rattle.tenonwhisk.proofs.tenonwhisk_run.Statement.{statement}
-use Rattle.tenonwhisk.proofs.tenonwhisk_run.Tie as tie
+use Rattle.tenonwhisk.proofs.Kept.{image-fits, floats-none, floats-kept}
+use Rattle.tenonwhisk_run.proofs.tenonwhisk_run_floats.Statement.{statement}
+use Rattle.tenonwhisk_run.proofs.tenonwhisk_run_floats.Tie as tie
 
 load-requires : tie.Need-load-requires
 load-requires c κs = search needs
@@ -12,14 +12,14 @@ same-length c = search needs
 returns : tie.Need-returns
 returns c =
     let a = c .before .before in
-    run-none _ (a .load .ensures) _ _ _ _ (c .if1 .taken)
+    floats-none _ (a .load .ensures) _ _ _ _ _ (c .if1 .taken)
 
-run-requires : tie.Need-run-requires
-run-requires c κs = search needs
+run-floats-requires : tie.Need-run-floats-requires
+run-floats-requires c κs = search needs
 
 keep-requires : tie.Need-keep-requires
 keep-requires c κs =
-    let a = c .before .before .before .before .before .before .before .before .before .before in
+    let a = c .before .before .before .before .before .before .before .before .before .before .before .before .before in
     let b = a .before .before in
     image-fits _ (b .load .ensures) (a .if1 .left)
 
@@ -35,25 +35,29 @@ same-length-4 c = search needs
 same-length-5 : tie.Need-same-length-5
 same-length-5 c = search needs
 
+same-length-6 : tie.Need-same-length-6
+same-length-6 c = search needs
+
 returns-2 : tie.Need-returns-2
 returns-2 c =
     let a = c .before .before in
-    let b = a .before .before .before .before .before .before .before in
-    let d = b .before .before .before .before in
+    let b = a .before .before .before .before .before .before .before .before .before in
+    let d = b .before .before .before .before .before in
     let e = d .before .before in
-    run-kept _ (e .load .ensures) _ _ _ _ (d .if1 .left) (b .run .ensures) (a .keep .ensures)
+    floats-kept _ (e .load .ensures) _ _ _ _ _ (d .if1 .left) (b .run-floats .ensures) (a .keep .ensures)
 
-pub tenonwhisk-run-spec : {M : Type 1} → statement M
-tenonwhisk-run-spec =
+pub tenonwhisk-run-floats-spec : {M : Type 1} → statement M
+tenonwhisk-run-floats-spec =
     tie.close
     (tie.spec
     load-requires
     same-length
     returns
-    run-requires
+    run-floats-requires
     keep-requires
     same-length-2
     same-length-3
     same-length-4
     same-length-5
+    same-length-6
     returns-2)

@@ -4,9 +4,9 @@ use mir.Syntax.{w16}
 use mir.Val.{toZ, ofZ}
 use mir.Facts.{toZ-ofZ}
 use Rattle.spu.specs.Step.{refusedOf}
 use Rattle.tenonwhisk.proofs.Kept.{image-fits, kept-none, kept}
-use Rattle.tenonwhisk.proofs.tenonwhisk_tick.Statement.{statement}
-use Rattle.tenonwhisk.proofs.tenonwhisk_tick.Tie as tie
+use Rattle.tenonwhisk_tick.proofs.tenonwhisk_tick.Statement.{statement}
+use Rattle.tenonwhisk_tick.proofs.tenonwhisk_tick.Tie as tie
 
 load-requires : tie.Need-load-requires
 load-requires c κs = search needs

@@ -1,7 +1,7 @@
 use borrow.Author.Needs.{needs}
 use Rattle.tenonwhisk.proofs.Kept.{make-0, make-1, make-2}
-use Rattle.tenonwhisk.proofs.tenonwhisk_make.Statement.{statement}
-use Rattle.tenonwhisk.proofs.tenonwhisk_make.Tie as tie
+use Rattle.tenonwhisk_state.proofs.tenonwhisk_make.Statement.{statement}
+use Rattle.tenonwhisk_state.proofs.tenonwhisk_make.Tie as tie
 
 make-requires : tie.Need-make-requires
 make-requires c κs = search needs

@@ -1,9 +1,9 @@
 use mathlib.Core.Path.{refl}
 use borrow.Author.Needs.{needs}
 use Rattle.spu.specs.Step.{refusedOf}
 use Rattle.tenonwhisk.proofs.Kept.{image-fits, kept-none, kept-still}
-use Rattle.tenonwhisk.proofs.tenonwhisk_reset.Statement.{statement}
-use Rattle.tenonwhisk.proofs.tenonwhisk_reset.Tie as tie
+use Rattle.tenonwhisk_state.proofs.tenonwhisk_write.Statement.{statement}
+use Rattle.tenonwhisk_state.proofs.tenonwhisk_write.Tie as tie
 
 load-requires : tie.Need-load-requires
 load-requires c κs = search needs
@@ -17,8 +17,8 @@ returns c =
     let a = c .before .before in
     λ ram marks. kept-none _ (a .load .ensures) _ _ _ (c .if1 .taken)
 
-reset-requires : tie.Need-reset-requires
-reset-requires c κs = search needs
+write-requires : tie.Need-write-requires
+write-requires c κs = search needs
 
 keep-requires : tie.Need-keep-requires
 keep-requires c κs =
@@ -35,16 +35,16 @@ returns-2 c =
     let b = a .before .before in
     let d = b .before in
     let e = d .before .before in
-    kept-still _ (e .load .ensures) _ (d .if1 .left) refl (b .reset .ensures) (a .keep .ensures)
+    kept-still _ (e .load .ensures) _ (d .if1 .left) refl (b .write .ensures) (a .keep .ensures)
 
-pub tenonwhisk-reset-spec : {M : Type 1} → statement M
-tenonwhisk-reset-spec =
+pub tenonwhisk-write-spec : {M : Type 1} → statement M
+tenonwhisk-write-spec =
     tie.close
     (tie.spec
     load-requires
     same-length
     returns
-    reset-requires
+    write-requires
     keep-requires
     same-length-2
     returns-2)
