@@ -1,10 +1,7 @@
 // Calls for hosts: many ticks at a time.
 ghost use mathlib.Core.Path.{_≡_};
-ghost use mathlib.Core.List.{map};
-ghost use lib.ListN.{length};
-ghost use Rattle.stereo.specs.Float.{floatOf};
 ghost use Rattle.spu.specs.Step.{firstOf, lentTests};
-ghost use Rattle.host.specs.Run.{runTests, ranOf, ranFloatsOf};
+ghost use Rattle.host.specs.Run.{runTests, ranOf};
 use chip::State;
 
 // What a run of ticks gives: how many there were, and which of them raised the interrupt and the doubt, or that number where none did.
@@ -16,7 +13,8 @@ pub struct Ran {
     pub state: State,
 }
 
-fn run_number(s: State, ram: usize, marks: usize, cd: usize, out: usize) -> u8
+// 1, 2 or 9, or 0 where none applies, of the lengths of what is lent.
+pub fn run_number(s: State, ram: usize, marks: usize, cd: usize, out: usize) -> u8
     ensures { λ r. ⌜ r ≡ firstOf (lentTests s ram marks (runTests cd out)) ⌝ }
 {
     let number = spu::lent_number(s, ram, marks);
@@ -54,46 +52,4 @@ pub fn run(s: State, ram: &mut [u8], marks: &mut [u8], cd: &[i16], out: &mut [i1
         doubt: t.doubt,
         state,
     }
-}
-
-// Each sample as a float.
-fn to_floats(out: &[i16], floats: &mut [f32])
-    requires { ⌜ length (now floats) ≡ length (now out) ⌝ }
-    ensures { λ _. ⌜ now (floats .exit) ≡ map floatOf (now (out .entry)) ⌝ }
-{
-    let mut i = 0;
-    while i < out.len() {
-        floats[i] = stereo::to_float(out[i]);
-        i += 1;
-    }
-}
-
-// The same, and its samples as floats beside.
-pub fn run_floats(
-    s: State,
-    ram: &mut [u8],
-    marks: &mut [u8],
-    cd: &[i16],
-    out: &mut [i16],
-    floats: &mut [f32],
-) -> Ran
-    ensures { λ r. ⌜ record { ran = record { number = r .number; count = r .count; run = record { state = r .state; ram = now (ram .exit); marks = now (marks .exit); out = now (out .exit); irq = r .irq; doubt = r .doubt } }; floats = now (floats .exit) } ≡ ranFloatsOf s (now (ram .entry)) (now (marks .entry)) (now (cd .entry)) (now (out .entry)) (now (floats .entry)) ⌝ }
-{
-    let number = run_number(s, ram.len(), marks.len(), floats.len(), out.len());
-    if number != 0 {
-        let state = s;
-        return Ran {
-            number,
-            count: 0,
-            irq: 0,
-            doubt: 0,
-            state,
-        };
-    }
-    let r = run(s, ram, marks, cd, out);
-    if r.number != 0 {
-        return r;
-    }
-    to_floats(out, floats);
-    r
 }

@@ -55,7 +55,7 @@ pub extern "C" fn tenonwhisk_run_floats(
             doubt: 0,
         };
     }
-    let r = host::run_floats(h.state, ram, marks, cd, out, floats);
+    let r = host_floats::run_floats(h.state, ram, marks, cd, out, floats);
     tenonwhisk::keep(r.number, r.state, state);
     Ran {
         number: r.number,

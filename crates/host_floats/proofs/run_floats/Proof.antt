@@ -1,8 +1,8 @@
 use borrow.Author.Needs.{needs}
 use denote.Ref.{now}
-use Rattle.host.proofs.Runs.{floats-no, floats-fit, floats-refused, floats-yes}
-use Rattle.host.proofs.run_floats.Statement.{statement}
-use Rattle.host.proofs.run_floats.Tie as tie
+use Rattle.host_floats.proofs.Floats.{floats-no, floats-fit, floats-refused, floats-yes}
+use Rattle.host_floats.proofs.run_floats.Statement.{statement}
+use Rattle.host_floats.proofs.run_floats.Tie as tie
 
 run-number-requires : tie.Need-run-number-requires
 run-number-requires c κs = search needs

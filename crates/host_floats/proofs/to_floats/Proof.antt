@@ -5,9 +5,9 @@ use mathlib.Core.List.{map}
 use lib.ListN.{length, take}
 use borrow.Author.Needs.{needs}
 use Rattle.stereo.specs.Float.{floatOf}
-use Rattle.host.proofs.Runs.{floats-more, floats-all}
-use Rattle.host.proofs.to_floats.Statement.{statement}
-use Rattle.host.proofs.to_floats.Tie as tie
+use Rattle.host_floats.proofs.Floats.{floats-more, floats-all}
+use Rattle.host_floats.proofs.to_floats.Statement.{statement}
+use Rattle.host_floats.proofs.to_floats.Tie as tie
 
 abbrev Inv-loop : tie.InvT-loop
 Inv-loop out floats₀ i₀ floats i = (i ≤ length out) × (length floats ≡ length out) × (take i floats ≡ take i (map floatOf out))
