@@ -1,4 +1,4 @@
-//! Links `libtenonwhisk.a`: the file that `TENONWHISK_LIB` names, or the one that `rt staticlib tenonwhisk` makes.
+//! Links `libtenonwhisk.a`: the file that `TENONWHISK_LIB` names, or the one that `host/build` makes.
 
 use std::path::{Path, PathBuf};
 use std::{env, fs};
@@ -8,7 +8,7 @@ fn main() {
     let out = env::var("OUT_DIR").expect("cargo sets OUT_DIR");
     if let Err(error) = fs::copy(&archive, Path::new(&out).join("libtenonwhisk.a")) {
         panic!(
-            "cannot read {} ({error}): run `rt staticlib tenonwhisk`, or name the archive in TENONWHISK_LIB",
+            "cannot read {} ({error}): run host/build, or name the archive in TENONWHISK_LIB",
             archive.display()
         );
     }
@@ -20,7 +20,7 @@ fn main() {
 
 fn archive() -> PathBuf {
     env::var_os("TENONWHISK_LIB").map_or_else(
-        || Path::new(env!("CARGO_MANIFEST_DIR")).join("../../target/staticlib/libtenonwhisk.a"),
+        || Path::new(env!("CARGO_MANIFEST_DIR")).join("../../target/host/libtenonwhisk.a"),
         PathBuf::from,
     )
 }
