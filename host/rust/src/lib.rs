@@ -4,7 +4,7 @@
 //! that may be refused gives a [`Refusal`], and then has changed nothing.
 //!
 //! The crate links the archive that the environment variable `TENONWHISK_LIB` names when it is built, or else
-//! `target/staticlib/libtenonwhisk.a` of its repository, which `rt staticlib tenonwhisk` makes.
+//! `target/host/libtenonwhisk.a` of its repository, which `host/build` makes.
 
 #![deny(missing_docs)]
 #![deny(unsafe_code)]
