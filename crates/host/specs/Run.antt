@@ -7,10 +7,11 @@ use lib.ListN.{length, getD, set}
 use lib.IntN.{ℤ, pos}
 use lib.Ieee.{Float}
 use Rattle.stereo.specs.Float.{floatOf}
+use Rattle.soundram.specs.Calls as calls
 use Rattle.chip.specs.declared.State.{State}
 use Rattle.tick.specs.declared.Pair.{Pair}
 use Rattle.runs.specs.Run.{Run}
-use Rattle.spu.specs.Step.{tick, Answer, written, value, moved, movedOut, pair, floats, made, viewed, Test, test, firstOf, lentTests, outcomeOf}
+use Rattle.spu.specs.Step.{Call, tick, Answer, written, value, moved, movedOut, pair, floats, made, viewed, Test, test, firstOf, lentTests, outcomeOf}
 
 -- 9: the buffer is not of whole pairs, or the CD's is of another length
 abbrev pub runTests : ℕ → ℕ → List Test
@@ -30,10 +31,13 @@ pairIn (floats n f) = silence
 pairIn (made n) = silence
 pairIn (viewed n k) = silence
 
--- tick k, as the call `tick` gives it
-unfoldable pub tickAt : List ℤ → ℕ → Run → Run
-tickAt cd k f =
-    let o = outcomeOf (tick (getD cd (k * 2) (pos 0)) (getD cd (k * 2 + 1) (pos 0))) (f .state) (f .ram) (f .marks) in
+-- the call of tick k
+abbrev callAt : List ℤ → ℕ → Call
+callAt cd k = tick (getD cd (k * 2) (pos 0)) (getD cd (k * 2 + 1) (pos 0))
+
+-- a run, once tick k gave o
+abbrev pub withTick : ℕ → calls.Outcome Answer State → Run → Run
+withTick k o f =
     record {
       state = o .state;
       ram = o .ram;
@@ -43,9 +47,22 @@ tickAt cd k f =
       doubt = cond (o .doubt) k (f .doubt);
     }
 
+-- tick k, as the call gives it
+unfoldable pub tickAt : List ℤ → ℕ → Run → Run
+tickAt cd k f = withTick k (outcomeOf (callAt cd k) (f .state) (f .ram) (f .marks)) f
+
 unfoldable pub ticksOf : List ℤ → ℕ → Run → Run
 ticksOf cd zero f = f
 ticksOf cd (suc k) f = tickAt cd k (ticksOf cd k f)
+
+-- the same as a list of calls; and a run, once they gave these outcomes, from tick k on
+unfoldable pub callsOf : List ℤ → ℕ → List Call
+callsOf cd zero = []
+callsOf cd (suc k) = callsOf cd k ++ callAt cd k ∷ []
+
+unfoldable pub gathered : List (calls.Outcome Answer State) → ℕ → Run → Run
+gathered [] k f = f
+gathered (o ∷ os) k f = gathered os (suc k) (withTick k o f)
 
 pub record Outcome : Type 0 where
   pub number : ℕ

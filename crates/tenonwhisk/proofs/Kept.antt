@@ -1,7 +1,7 @@
 -- What a call keeps, from what the core's call gives and leaves and what was stored. Assumes nothing.
-use mathlib.Core.Path.{_≡_, refl, sym, ap, subst, _∙_}
+use mathlib.Core.Path.{_≡_, refl, sym, ap, _∙_}
 use mathlib.Core.Bool.{Bool, true, false, cond, _&&_, not, false≢true}
-use mathlib.Core.List.{List, [], _∷_}
+use mathlib.Core.List.{List}
 use Prim.Native.Nat.{ℕ, zero, suc}
 use native.Mathlib.Omega.{arith}
 use lib.Dec.{eqb}
@@ -20,7 +20,7 @@ use Rattle.spu.specs.Step.{Call, write, read, transferIn, transferOut, tick, ti
 use Rattle.spu.specs.declared.Changed.{Changed}
 use Rattle.host.specs.Run as host
 use Rattle.host.specs.Run.{numberedOf, ranOf, ranFloatsOf}
-use Rattle.tenonwhisk.specs.Kept.{stores, keptIn, keptNot, keptOf, Holds, Stored, Keeps, KeepsStill, viewLength, Run, runIn, keptRunOf, RunFloats, keptFloatsOf, keptMakeOf, statusOf}
+use Rattle.tenonwhisk.specs.Kept.{stores, keptIn, keptOf, Holds, Stored, Keeps, KeepsStill, viewLength, Run, runIn, keptRunOf, keptFloatsOf, keptMakeOf, statusOf}
 
 -- ---- the number of an answer
 

@@ -1,5 +1,4 @@
 use borrow.Author.Needs.{needs}
-use denote.Ref.{now}
 use Rattle.chip.proofs.Tests.{in-range}
 use Rattle.spu.proofs.Shape.{shaped}
 use Rattle.spu.proofs.Lent.{lent-ok, lent-all}
