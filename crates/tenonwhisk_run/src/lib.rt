@@ -25,13 +25,13 @@ pub extern "C" fn tenonwhisk_run(
             doubt: 0,
         };
     }
-    let r = host::run(h.state, ram, marks, cd, out);
-    tenonwhisk::keep(r.number, r.state, state);
+    let ran = host::run(h.state, ram, marks, cd, out);
+    tenonwhisk::keep(ran.number, ran.state, state);
     Ran {
-        number: r.number,
-        count: r.count,
-        irq: r.irq,
-        doubt: r.doubt,
+        number: ran.number,
+        count: ran.count,
+        irq: ran.irq,
+        doubt: ran.doubt,
     }
 }
 
@@ -55,12 +55,12 @@ pub extern "C" fn tenonwhisk_run_floats(
             doubt: 0,
         };
     }
-    let r = host_floats::run_floats(h.state, ram, marks, cd, out, floats);
-    tenonwhisk::keep(r.number, r.state, state);
+    let both = host_floats::run_floats(h.state, ram, marks, cd, out, floats);
+    tenonwhisk::keep(both.number, both.state, state);
     Ran {
-        number: r.number,
-        count: r.count,
-        irq: r.irq,
-        doubt: r.doubt,
+        number: both.number,
+        count: both.count,
+        irq: both.irq,
+        doubt: both.doubt,
     }
 }

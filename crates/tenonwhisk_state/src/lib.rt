@@ -38,9 +38,9 @@ pub extern "C" fn tenonwhisk_reset(state: &mut [u8]) -> u8
     if !h.ok {
         return 2;
     }
-    let r = spu_registers::reset(h.state);
-    tenonwhisk::keep(r.number, r.state, state);
-    r.number
+    let fresh = spu_registers::reset(h.state);
+    tenonwhisk::keep(fresh.number, fresh.state, state);
+    fresh.number
 }
 
 #[no_mangle]
@@ -73,9 +73,9 @@ pub extern "C" fn tenonwhisk_write(state: &mut [u8], offset: u32, value: u16) ->
     if !h.ok {
         return 2;
     }
-    let r = spu_registers::write(h.state, offset, value);
-    tenonwhisk::keep(r.number, r.state, state);
-    r.number
+    let next = spu_registers::write(h.state, offset, value);
+    tenonwhisk::keep(next.number, next.state, state);
+    next.number
 }
 
 #[no_mangle]
@@ -89,10 +89,10 @@ pub extern "C" fn tenonwhisk_read(state: &[u8], offset: u32) -> Reading
             value: 0,
         };
     }
-    let r = spu_registers::read(h.state, offset);
+    let reading = spu_registers::read(h.state, offset);
     Reading {
-        number: r.number,
-        value: r.value,
+        number: reading.number,
+        value: reading.value,
     }
 }
 

@@ -41,14 +41,14 @@ pub extern "C" fn tenonwhisk_tick(
             right: 0,
         };
     }
-    let r = spu_tick::tick(h.state, ram, marks, left, right);
-    tenonwhisk::keep(r.number, r.state, state);
+    let ticked = spu_tick::tick(h.state, ram, marks, left, right);
+    tenonwhisk::keep(ticked.number, ticked.state, state);
     Ticked {
-        number: r.number,
-        irq: r.irq,
-        doubt: r.doubt,
-        left: r.left,
-        right: r.right,
+        number: ticked.number,
+        irq: ticked.irq,
+        doubt: ticked.doubt,
+        left: ticked.left,
+        right: ticked.right,
     }
 }
 
@@ -73,13 +73,13 @@ pub extern "C" fn tenonwhisk_tick_floats(
             right: zero,
         };
     }
-    let r = spu_tick::tick_floats(h.state, ram, marks, left, right);
-    tenonwhisk::keep(r.number, r.state, state);
+    let floats = spu_tick::tick_floats(h.state, ram, marks, left, right);
+    tenonwhisk::keep(floats.number, floats.state, state);
     TickedFloats {
-        number: r.number,
-        irq: r.irq,
-        doubt: r.doubt,
-        left: r.pair.left,
-        right: r.pair.right,
+        number: floats.number,
+        irq: floats.irq,
+        doubt: floats.doubt,
+        left: floats.pair.left,
+        right: floats.pair.right,
     }
 }

@@ -29,13 +29,13 @@ pub extern "C" fn tenonwhisk_transfer_in(
             count: 0,
         };
     }
-    let r = spu_transfer::transfer_in(h.state, ram, marks, values);
-    tenonwhisk::keep(r.number, r.state, state);
+    let inward = spu_transfer::transfer_in(h.state, ram, marks, values);
+    tenonwhisk::keep(inward.number, inward.state, state);
     Moved {
-        number: r.number,
-        irq: r.irq,
-        doubt: r.doubt,
-        count: r.count,
+        number: inward.number,
+        irq: inward.irq,
+        doubt: inward.doubt,
+        count: inward.count,
     }
 }
 
@@ -57,12 +57,12 @@ pub extern "C" fn tenonwhisk_transfer_out(
             count: 0,
         };
     }
-    let r = spu_transfer::transfer_out(h.state, ram, marks, out);
-    tenonwhisk::keep(r.number, r.state, state);
+    let outward = spu_transfer::transfer_out(h.state, ram, marks, out);
+    tenonwhisk::keep(outward.number, outward.state, state);
     Moved {
-        number: r.number,
-        irq: r.irq,
-        doubt: r.doubt,
-        count: r.count,
+        number: outward.number,
+        irq: outward.irq,
+        doubt: outward.doubt,
+        count: outward.count,
     }
 }
