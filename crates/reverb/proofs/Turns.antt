@@ -1,6 +1,6 @@
 -- The programs of a turn, from what the code's parts do. Assumes nothing.
-use mathlib.Core.Path.{_≡_, _∙_, ap}
-use mathlib.Core.Bool.{Bool, true, false, not}
+use mathlib.Core.Path.{_≡_, refl, _∙_, ap, ap₂, subst}
+use mathlib.Core.Bool.{Bool, true, false, _||_, _&&_, not}
 use mathlib.Core.List.{List}
 use Prim.Native.Nat.{ℕ, suc, _+_, _-_, _%_, _≤_, _<_}
 use native.Mathlib.Omega.{arith}
@@ -16,7 +16,9 @@ use Rattle.fixed.proofs.Number.{Num, res-in}
 use Rattle.soundram.specs.declared.ByteAddress.{ByteAddress}
 use Rattle.soundram.specs.declared.Reader.{Reader}
 use Rattle.soundram.specs.Address.{halfwordOf}
-use Rattle.soundram.specs.Program.{Mem, Does, get, put}
+use Rattle.soundram.specs.declared.Watch.{Watch}
+use Rattle.soundram.specs.Memory.{marked, reading, latched}
+use Rattle.soundram.specs.Program.{Mem, memOf, afterRead, Result, run, Does, bind, get, put}
 use Rattle.soundram.proofs.Programs.{does-done, does-give, does-bind, does-yes, does-no}
 use Rattle.reverb.specs.declared.Area.{Area}
 use Rattle.reverb.specs.declared.Turning.{Turning}
@@ -83,9 +85,30 @@ scaled regs offset f e = res-in w32 (e .0 ∙ ap (λ (y : ℤ). productOf y (vol
 abbrev pub scaled-sum : (regs : List ℕ) (offset : ℕ) (x : Num) {r : ℤ} → (r ≡ productOf (x .code) (volumeAt regs offset)) × In 0x20000 0x20000 r → Num
 scaled-sum regs offset x e = res-in w32 (e .0 ∙ ap (λ (y : ℤ). productOf y (volumeAt regs offset)) (x .is)) (e .1) tt
 
+-- ---- a second read of a halfword notices nothing new
+
+or-twice : (a b : Bool) → ((a || b) || b) ≡ (a || b)
+or-twice true b = refl
+or-twice false true = refl
+or-twice false false = refl
+
+read-twice : (c : Bool) (h : ℕ) (m : Mem) → afterRead c h (afterRead c h m) ≡ afterRead c h m
+unfolding reading
+read-twice c h m =
+    let w = m .watch in
+    ap₂ (λ (l d : Bool). memOf (m .ram) (m .marks) (record { armed = w .armed; halfword = w .halfword; latch = l; doubt = d }))
+    (or-twice (w .latch) _)
+    (or-twice (w .doubt) _)
+
 -- ---- accesses: v is the halfword as it is read
 
 module _ (area : Area) (t : Turning) where
+  pub fetch-again : (d : ℤ) {x : ℤ} {m n : Mem} → Does (fetch area t d) m x n → Does (fetch area t d) n x n
+  unfolding fetch get bind run
+  fetch-again d {x} {m} f =
+      subst (λ (k : Mem). Does (fetch area t d) k x k) (ap (λ (r : Result ℤ). r .mem) (f .ran))
+      (record { ran = ap₂ (λ (a : ℤ) (k : Mem). record { answer = a; mem = k }) (ap (λ (r : Result ℤ). r .answer) (f .ran)) (read-twice (t .counted) _ m) })
+
   pub fetch-does : (d : ℤ) {who : Reader} {at : ByteAddress} {x : ℤ} {v : ℕ} {m n : Mem} → who ≡ whoOf (t .right) → at ≡ addressAt area d → Does (get who (t .counted) (halfwordOf at)) m v n → x ≡ signed 16 v
       → Does (fetch area t d) m x n
   unfolding fetch
@@ -112,12 +135,13 @@ module _ (area : Area) (t : Turning) where
 
 module _ (regs : List ℕ) (area : Area) (t : Turning) where
   -- e is the input and x what is stored, as the calls have them
-  pub reflection-does : (input : ℤ) (m d : ℕ) {e a b c a′ b′ c′ x x′ : ℤ} {m′ d′ : ℕ} {k l n o p : Mem} → m′ ≡ bytesAt regs m → d′ ≡ bytesAt regs d → e ≡ input
-      → Does (fetch area t (pos d′ -ℤ pos 0)) k a l → Does (fetch area t (pos m′ -ℤ pos 2)) l b n → Does (fetch area t (pos m′ -ℤ pos 2)) n c o
-      → a′ ≡ a → b′ ≡ b → c′ ≡ c → x ≡ reflectedOf regs e a′ b′ c′ → x′ ≡ x → Does (store area t (pos m′) x′) o tt p → Does (reflection regs area t input m d) k tt p
+  pub reflection-does : (input : ℤ) (m d : ℕ) {e a b a′ b′ b″ x x′ : ℤ} {m′ d′ : ℕ} {k l n p : Mem} → m′ ≡ bytesAt regs m → d′ ≡ bytesAt regs d → e ≡ input
+      → Does (fetch area t (pos d′ -ℤ pos 0)) k a l → Does (fetch area t (pos m′ -ℤ pos 2)) l b n
+      → a′ ≡ a → b′ ≡ b → b″ ≡ b → x ≡ reflectedOf regs e a′ b′ b″ → x′ ≡ x → Does (store area t (pos m′) x′) n tt p → Does (reflection regs area t input m d) k tt p
   unfolding reflection
-  reflection-does input m d em ed ei f g h ea eb ec ex ey s =
-      does-bind _ (fetch-here area t _ ed f) (does-bind _ (rw em at g) (does-bind _ (rw em at h) (rw (em, ey, ex, ei, ea, eb, ec) at s)))
+  reflection-does input m d em ed ei f g ea eb ec ex ey s =
+      let h = rw em at g in
+      does-bind _ (fetch-here area t _ ed f) (does-bind _ h (does-bind _ (fetch-again area t _ h) (rw (em, ey, ex, ei, ea, eb, ec) at s)))
 
   pub combs-does : {a b c d a′ b′ c′ d′ x y : ℤ} {k l n o p : Mem} → Does (fetch area t (pos (bytesAt regs (0x1D8 + sideOf (t .right))))) k a l
       → Does (fetch area t (pos (bytesAt regs (0x1DC + sideOf (t .right))))) l b n → Does (fetch area t (pos (bytesAt regs (0x1E8 + sideOf (t .right))))) n c o

@@ -62,7 +62,7 @@ fn reflected(regs: &[u16; 256], input: i32, a: i16, b: i16, c: i16) -> i16
     fixed::saturate(change + c as i32)
 }
 
-// Of the registers that hold m and d.
+// Of the registers that hold m and d. The formula's two reads of one halfword are one here: the second finds what the first did.
 fn reflection(
     regs: &[u16; 256],
     ram: &mut [u8],
@@ -80,9 +80,8 @@ fn reflection(
     let to = bytes(regs, m);
     let a = reverb::fetch(ram, marks, area, t, bytes(regs, d), 0, w);
     let b = reverb::fetch(ram, marks, area, t, to, 2, a.watch);
-    let c = reverb::fetch(ram, marks, area, t, to, 2, b.watch);
-    let x = reflected(regs, input, a.value, b.value, c.value);
-    reverb::store(ram, marks, area, t, to, x, c.watch)
+    let x = reflected(regs, input, a.value, b.value, b.value);
+    reverb::store(ram, marks, area, t, to, x, b.watch)
 }
 
 fn combed(regs: &[u16; 256], a: i16, b: i16, c: i16, d: i16) -> i32

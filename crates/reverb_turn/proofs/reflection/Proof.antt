@@ -18,17 +18,14 @@ fetch-requires c κs = search needs
 fetch-requires-2 : tie.Need-fetch-requires-2
 fetch-requires-2 c κs = search needs
 
-fetch-requires-3 : tie.Need-fetch-requires-3
-fetch-requires-3 c κs = search needs
-
 reflected-requires : tie.Need-reflected-requires
 reflected-requires c κs =
-    let a = c .before .before .before .before .before .before .before .before .before .before .before .before .before .before .before .before in
+    let a = c .before .before .before .before .before .before .before .before .before .before .before .before .before in
     passed-in w32 (a .pre .2) tt
 
 store-requires : tie.Need-store-requires
 store-requires c κs =
-    let a = c .before .before .before .before .before .before .before .before .before .before .before .before .before .before .before .before in
+    let a = c .before .before .before .before .before .before .before .before .before .before .before .before .before in
     let b = a .before .before .before in
     (b .pre .0, b .pre .1, a .bytes .ensures .1)
 
@@ -47,11 +44,10 @@ returns c =
     let f = e .before in
     let g = f .before in
     let h = g .before .before .before in
-    let i = h .before .before .before in
-    let j = i .before in
+    let j = h .before in
     let k = j .before .before .before in
     let l = k .before .before .before in
-    reflection-does _ _ _ _ _ _ (k .bytes .ensures .0) (j .bytes2 .ensures .0) (toZ-ofZ (l .fits .input)) (i .fetch .ensures) (h .fetch2 .ensures) (g .fetch3 .ensures) (search (needs, f .struct-told .given)) (search (needs, e .struct-told2 .given)) (search (needs, d .struct-told3 .given)) (b .reflected .ensures) (is (ok w16 _ (b .reflected .ok))) (a .store .ensures)
+    reflection-does _ _ _ _ _ _ (k .bytes .ensures .0) (j .bytes2 .ensures .0) (toZ-ofZ (l .fits .input)) (h .fetch .ensures) (g .fetch2 .ensures) (search (needs, f .struct-told .given)) (search (needs, e .struct-told2 .given)) (search (needs, d .struct-told3 .given)) (b .reflected .ensures) (is (ok w16 _ (b .reflected .ok))) (a .store .ensures)
 
 pub reflection-spec : {M : Type 1} → statement M
 reflection-spec =
@@ -61,7 +57,6 @@ reflection-spec =
     bytes-requires-2
     fetch-requires
     fetch-requires-2
-    fetch-requires-3
     reflected-requires
     store-requires
     same-length
