@@ -1,83 +1,51 @@
-use mathlib.Core.Path.{_≡_, refl}
-use Prim.Native.Nat.{_*_, _-_, _≤_}
+use mathlib.Core.Path.{_≡_}
+use Prim.Native.Nat.{_%_}
 use native.Mathlib.Omega.{arith}
+use lib.Dec.{eqb}
+use borrow.Author.Tests.{eqb-true}
 use borrow.Author.Needs.{needs}
-use lib.ListN.{length, take}
-use Rattle.soundram.specs.Program.{Does, memOf, bytesFrom}
-use Rattle.soundram.proofs.Addresses.{forward-below}
-use Rattle.soundram.proofs.Programs.{within}
-use Rattle.soundram.proofs.Blocks.{bytes-none, bytes-more, bytes-end}
+use Rattle.access.proofs.Whole.{and-first, and-rest, whole-does}
 use Rattle.access.proofs.load.Statement.{statement}
 use Rattle.access.proofs.load.Tie as tie
 
-abbrev Inv-loop : tie.InvT-loop
-Inv-loop ram marks who size a bytes₀ watch₀ i₀ bytes watch i = (i ≤ 8) × (length bytes ≡ 16) × Does (bytesFrom who size a i) (memOf ram marks watch₀) (take (i * 2) bytes) (memOf ram marks watch)
+cast-i : tie.Need-cast-i
+cast-i c = search needs
 
-abbrev μ-loop : tie.MeasureT-loop
-μ-loop ram marks who size a bytes₀ watch₀ i₀ bytes watch i = 8 - i
+shared-slice-read-if1 : tie.Need-shared-slice-read-if1
+shared-slice-read-if1 c = search needs
 
-loop-holds : tie.Need-loop-holds Inv-loop μ-loop
-loop-holds c = (omega arith, refl, bytes-none _ _ _ _)
+copied-requires : tie.Need-copied-requires
+copied-requires c κs =
+    let z = c .before .before .before .before .before .before in
+    let e : z .args .a .0 % 16 ≡ 0 = eqb-true _ _ (and-first (eqb (z .args .a .0 % 16) 0) _ (c .if1 .taken)) in
+    omega (arith, e, z .pre .0 .sized .sixteens, z .pre .0 .ram-size, z .pre .1)
 
-mul-k : tie.Need-mul-k Inv-loop μ-loop
-mul-k c = search needs
+noticed-whole-requires : tie.Need-noticed-whole-requires
+noticed-whole-requires c κs = search needs
 
-cast-forward : tie.Need-cast-forward Inv-loop μ-loop
-cast-forward c = search needs
+returns : tie.Need-returns
+returns c =
+    let k = c .before in
+    let i = k .before in
+    let z = i .before .before .before .before .before .before in
+    let t = i .if1 .taken in
+    let b = eqb (z .args .a .0 % 16) 0 in
+    whole-does _ _ _ _ _ _ _ (z .pre .0) (z .pre .1) (eqb-true _ _ (and-first b _ t)) (eqb-true _ _ (and-rest b _ t)) (k .copied .ensures .0) (k .copied .ensures .1) (c .noticed-whole .ensures)
 
-forward-requires : tie.Need-forward-requires Inv-loop μ-loop
-forward-requires c κs = search needs
+load-each-requires : tie.Need-load-each-requires
+load-each-requires c κs = search needs
 
-read-requires : tie.Need-read-requires Inv-loop μ-loop
-read-requires c κs = search (within, forward-below)
-
-cast-bytes : tie.Need-cast-bytes Inv-loop μ-loop
-cast-bytes c = search needs
-
-array-write-bytes : tie.Need-array-write-bytes Inv-loop μ-loop
-array-write-bytes c = search needs
-
-cast-bytes-2 : tie.Need-cast-bytes-2 Inv-loop μ-loop
-cast-bytes-2 c = search needs
-
-add-bytes : tie.Need-add-bytes Inv-loop μ-loop
-add-bytes c = search needs
-
-array-write-bytes-2 : tie.Need-array-write-bytes-2 Inv-loop μ-loop
-array-write-bytes-2 c = search needs
-
-add-i : tie.Need-add-i Inv-loop μ-loop
-add-i c = search needs
-
-loop-less : tie.Need-loop-less Inv-loop μ-loop
-loop-less c = search needs
-
-loop-again : tie.Need-loop-again Inv-loop μ-loop
-loop-again c =
-    let r = c .before .before .before in
-    let v = r .before .before .before .loop .inv in
-    (omega arith, search needs, bytes-more _ _ _ _ _ _ _ (v .1) (omega arith) (v .2) (r .before .forward .ensures) (r .read .ensures))
-
-returns : tie.Need-returns Inv-loop μ-loop
-returns c = search (bytes-end, needs)
+returns-2 : tie.Need-returns-2
+returns-2 c = search needs
 
 pub load-spec : {M : Type 1} → statement M
 load-spec =
     tie.close
     (tie.spec
-    Inv-loop
-    μ-loop
-    loop-holds
-    mul-k
-    cast-forward
-    forward-requires
-    read-requires
-    cast-bytes
-    array-write-bytes
-    cast-bytes-2
-    add-bytes
-    array-write-bytes-2
-    add-i
-    loop-less
-    loop-again
-    returns)
+    cast-i
+    shared-slice-read-if1
+    copied-requires
+    noticed-whole-requires
+    returns
+    load-each-requires
+    returns-2)
