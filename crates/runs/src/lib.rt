@@ -51,6 +51,7 @@ pub fn run(s: State, ram: &mut [u8], marks: &mut [u8], cd: &[i16], out: &mut [i1
     let table = gauss::table();
     let pmon = voices::modulation(&s.regs);
     let non = registers::flags(&s.regs, 0x194);
+    let volumes = voices::volumes(&s.regs);
     let count = out.len() / 2;
     let mut g = tick_end::begin(s, count);
     let mut watch = g.watch;
@@ -65,6 +66,7 @@ pub fn run(s: State, ram: &mut [u8], marks: &mut [u8], cd: &[i16], out: &mut [i1
                 &s.regs,
                 size,
                 g,
+                &volumes,
                 amplitudes,
                 ram,
                 marks,

@@ -5,7 +5,7 @@ ghost use Prim.Native.Nat.{_+_, _*_, _<_};
 ghost use lib.ListN.{length};
 ghost use Rattle.soundram.specs.Address.{Lent};
 ghost use Rattle.soundram.specs.Program.{Does, memOf};
-ghost use Rattle.voices.specs.Voices.{SumsIn, mixedOf};
+ghost use Rattle.voices.specs.Voices.{Volumes, SumsIn, mixedOf};
 ghost use Rattle.chip.specs.Range.{CaptureIn, PlaceIn};
 ghost use Rattle.chip.specs.State.{baseAt};
 ghost use Rattle.tick.specs.Tick.{placeAfter, heldOf, reverbAfter, reverbOf, closeOf};
@@ -110,6 +110,7 @@ fn close(
     size: u32,
     r: Rest,
     n: Noise,
+    volumes: &[i16; 96],
     amplitudes: [i16; 24],
     ram: &mut [u8],
     marks: &mut [u8],
@@ -117,10 +118,10 @@ fn close(
     right: i16,
     w: Watch,
 ) -> Closed
-    requires { ⌜ Lent size (now ram) (now marks) × CaptureIn (r .capture) × PlaceIn size (baseAt size (now regs) .0) (r .reverb .place .0) ⌝ }
+    requires { ⌜ Lent size (now ram) (now marks) × CaptureIn (r .capture) × PlaceIn size (baseAt size (now regs) .0) (r .reverb .place .0) × Volumes (now regs) (now volumes) ⌝ }
     ensures { λ c. ⌜ Does (closeOf (now (regs .entry)) size r n (mixedOf (now (regs .entry)) amplitudes 24) left right) (memOf (now (ram .entry)) (now (marks .entry)) w) (record { pair = c .pair; rest = c .rest }) (memOf (now (ram .exit)) (now (marks .exit)) (c .watch)) ⌝ }
 {
-    let sums = voices::mix(regs, amplitudes);
+    let sums = voices::mix(regs, volumes, amplitudes);
     let captured = tick::capture(ram, marks, size, r.capture, left, right, sums.captured, w);
     let t = turn(
         regs,
@@ -176,6 +177,7 @@ pub fn finish(
     regs: &[u16; 256],
     size: u32,
     g: Going,
+    volumes: &[i16; 96],
     amplitudes: [i16; 24],
     ram: &mut [u8],
     marks: &mut [u8],
@@ -184,7 +186,7 @@ pub fn finish(
     k: usize,
     w: Watch,
 ) -> Going
-    requires { ⌜ Lent size (now ram) (now marks) × CaptureIn (g .rest .capture) × PlaceIn size (baseAt size (now regs) .0) (g .rest .reverb .place .0) × (k * 2 + 1 < length (now cd)) × (length (now cd) ≡ length (now out)) ⌝ }
+    requires { ⌜ Lent size (now ram) (now marks) × CaptureIn (g .rest .capture) × PlaceIn size (baseAt size (now regs) .0) (g .rest .reverb .place .0) × (k * 2 + 1 < length (now cd)) × (length (now cd) ≡ length (now out)) × Volumes (now regs) (now volumes) ⌝ }
     ensures { λ r. ⌜ Finishes (now (regs .entry)) size g amplitudes (now (cd .entry)) k (memOf (now (ram .entry)) (now (marks .entry)) w) (now (out .entry)) r (memOf (now (ram .exit)) (now (marks .exit)) (r .watch)) (now (out .exit)) ⌝ }
 {
     let i = k * 2;
@@ -195,6 +197,7 @@ pub fn finish(
         size,
         g.rest,
         g.noise,
+        volumes,
         amplitudes,
         ram,
         marks,

@@ -2,7 +2,7 @@
 use mathlib.Core.Path.{_≡_}
 use mathlib.Core.Bool.{Bool, cond, false, _&&_}
 use mathlib.Core.List.{List, []}
-use Prim.Native.Nat.{ℕ, zero, suc, _<_, _*_}
+use Prim.Native.Nat.{ℕ, zero, suc, _<_, _+_, _*_}
 use lib.Dec.{eqb, ltb}
 use lib.ListN.{getD, set}
 use lib.IntN.{ℤ, pos, _+ℤ_}
@@ -82,6 +82,17 @@ noSums = record { dry = silent; wet = silent; below = pos 0; captured = record {
 unfoldable pub mixedOf : List ℕ → List ℤ → ℕ → Sums
 mixedOf regs amplitudes zero = noSums
 mixedOf regs amplitudes (suc n) = addedOf regs n (getD amplitudes n (pos 0)) (mixedOf regs amplitudes n)
+
+-- the volumes of all voices, in four parts of 24: left, right, and the same of those with reverb
+pub record Volumes (regs : List ℕ) (v : List ℤ) : Type 0 where
+  pub left : (n : ℕ) → n < 24 → getD v n (pos 0) ≡ volumeOf (ofVoice regs n 0)
+  pub right : (n : ℕ) → n < 24 → getD v (n + 24) (pos 0) ≡ volumeOf (ofVoice regs n 2)
+  pub wet-left : (n : ℕ) → n < 24 → getD v (n + 48) (pos 0) ≡ cond (flagOf regs 0x198 n) (volumeOf (ofVoice regs n 0)) (pos 0)
+  pub wet-right : (n : ℕ) → n < 24 → getD v (n + 72) (pos 0) ≡ cond (flagOf regs 0x198 n) (volumeOf (ofVoice regs n 2)) (pos 0)
+
+-- an amplitude's shares of both sides, by the volumes at k and 24 further on
+unfoldable pub sharesOf : List ℤ → ℕ → ℤ → Sides
+sharesOf v k a = record { left = productOf a (getD v k (pos 0)); right = productOf a (getD v (k + 24) (pos 0)) }
 
 -- the sums of n voices: each side is at most 8000h
 pub record SidesIn (n : ℕ) (s : Sides) : Type 0 where

@@ -1,9 +1,12 @@
 // What the registers say of each voice, and the sums of all 24.
 ghost use mathlib.Core.Path.{_≡_};
+ghost use mathlib.Core.Bool.{cond};
 ghost use Prim.Native.Nat.{_<_};
+ghost use lib.IntN.{pos};
 ghost use Rattle.fixed.specs.Range.{In};
+ghost use Rattle.fixed.specs.Arithmetic.{productOf};
 ghost use Rattle.registers.specs.Map.{Flags};
-ghost use Rattle.voices.specs.Voices.{flaggedOf, settingsOf, Modulated, sideOf, sidesOf, joinedOf, gatedOf, SidesIn, SumsIn, mixedOf};
+ghost use Rattle.voices.specs.Voices.{flaggedOf, settingsOf, Modulated, Volumes, sharesOf, joinedOf, SidesIn, SumsIn, mixedOf};
 use voice::Settings;
 
 // A sum, or a share of one, for each side.
@@ -56,20 +59,51 @@ pub fn settings_by(regs: &[u16; 256], pmon: u32, non: u32, n: usize) -> Settings
     with_flags(regs, n, registers::has(pmon, n), registers::has(non, n))
 }
 
-fn side(amplitude: i16, volume: u16) -> i32
-    ensures { λ r. ⌜ (r ≡ sideOf amplitude volume) × (In 0x8000 0x8000 r) ⌝ }
+// A voice's volume, or none.
+fn gate(on: bool, volume: i16) -> i16
+    ensures { λ r. ⌜ r ≡ cond on volume (pos 0) ⌝ }
 {
-    fixed::product(amplitude as i32, fixed::volume(volume))
+    if on {
+        return volume;
+    }
+    0
 }
 
-// Both sides of voice n.
-fn both_sides(regs: &[u16; 256], n: usize, a: i16) -> Sides
-    requires { ⌜ n < 24 ⌝ }
-    ensures { λ r. ⌜ (r ≡ sidesOf (now (regs .entry)) n a) × SidesIn 1 r ⌝ }
+// The volumes of all voices, which hold as long as the registers do: left, right, and left and right of those with reverb, 24 of each.
+pub fn volumes(regs: &[u16; 256]) -> [i16; 96]
+    ensures { λ r. ⌜ Volumes (now (regs .entry)) r ⌝ }
+{
+    let eon = registers::flags(regs, 0x198);
+    let mut v = [0i16; 96];
+    for n in 0..24usize {
+        let left = fixed::volume(registers::of_voice(regs, n, 0));
+        let right = fixed::volume(registers::of_voice(regs, n, 2));
+        let wet = registers::has(eon, n);
+        let wet_left = gate(wet, left);
+        let wet_right = gate(wet, right);
+        v[n] = left;
+        v[n + 24] = right;
+        v[n + 48] = wet_left;
+        v[n + 72] = wet_right;
+    }
+    v
+}
+
+// An amplitude's share of a side.
+fn side(amplitude: i16, volume: i16) -> i32
+    ensures { λ r. ⌜ (r ≡ productOf amplitude volume) × (In 0x8000 0x8000 r) ⌝ }
+{
+    (amplitude as i32 * volume as i32) >> 15
+}
+
+// Its shares of both sides, by the volumes at k and 24 further on.
+fn both_sides(v: &[i16; 96], k: usize, a: i16) -> Sides
+    requires { ⌜ k < 72 ⌝ }
+    ensures { λ r. ⌜ (r ≡ sharesOf (now (v .entry)) k a) × SidesIn 1 r ⌝ }
 {
     Sides {
-        left: side(a, registers::of_voice(regs, n, 0)),
-        right: side(a, registers::of_voice(regs, n, 2)),
+        left: side(a, v[k]),
+        right: side(a, v[k + 24]),
     }
 }
 
@@ -83,26 +117,17 @@ fn join(s: Sides, t: Sides) -> Sides
     }
 }
 
-fn gate(on: bool, s: Sides) -> Sides
-    ensures { λ r. ⌜ r ≡ gatedOf on s ⌝ }
-{
-    if on {
-        return s;
-    }
-    Sides { left: 0, right: 0 }
-}
-
-// The sums of all voices. Those of voices 1 and 3 are captured.
-pub fn mix(regs: &[u16; 256], amplitudes: [i16; 24]) -> Sums
+// The sums of all voices, by their volumes. Those of voices 1 and 3 are captured.
+pub fn mix(regs: &[u16; 256], v: &[i16; 96], amplitudes: [i16; 24]) -> Sums
+    requires { ⌜ Volumes (now regs) (now v) ⌝ }
     ensures { λ r. ⌜ (r ≡ mixedOf (now (regs .entry)) amplitudes 24) × SumsIn 24 r ⌝ }
 {
-    let eon = registers::flags(regs, 0x198);
     let mut dry = Sides { left: 0, right: 0 };
     let mut wet = Sides { left: 0, right: 0 };
     for n in 0..24usize {
-        let here = both_sides(regs, n, amplitudes[n]);
-        dry = join(dry, here);
-        wet = join(wet, gate(registers::has(eon, n), here));
+        let a = amplitudes[n];
+        dry = join(dry, both_sides(v, n, a));
+        wet = join(wet, both_sides(v, n + 48, a));
     }
     let captured = Captured {
         first: amplitudes[1],

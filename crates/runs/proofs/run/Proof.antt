@@ -16,11 +16,11 @@ use Rattle.runs.proofs.run.Statement.{statement}
 use Rattle.runs.proofs.run.Tie as tie
 
 abbrev Inv-loop : tie.InvT-loop
-Inv-loop ram₀ marks₀ cd out₀ s size table pmon non count g₀ watch₀ voices₀ amplitudes₀ below₀ n₀ k₀ ram marks out g watch voices amplitudes below n k =
+Inv-loop ram₀ marks₀ cd out₀ s size table pmon non volumes count g₀ watch₀ voices₀ amplitudes₀ below₀ n₀ k₀ ram marks out g watch voices amplitudes below n k =
     Running s cd (record { state = s; ram = ram₀; marks = marks₀; out = out₀; irq = count; doubt = count }) count k n voices amplitudes (toZ w16 below) g watch ram marks out
 
 abbrev μ-loop : tie.MeasureT-loop
-μ-loop ram₀ marks₀ cd out₀ s size table pmon non count g₀ watch₀ voices₀ amplitudes₀ below₀ n₀ k₀ ram marks out g watch voices amplitudes below n k =
+μ-loop ram₀ marks₀ cd out₀ s size table pmon non volumes count g₀ watch₀ voices₀ amplitudes₀ below₀ n₀ k₀ ram marks out g watch voices amplitudes below n k =
     (count - k) * 25 + (24 - n)
 
 table-requires : tie.Need-table-requires Inv-loop μ-loop
@@ -32,32 +32,35 @@ modulation-requires c κs = search needs
 flags-requires : tie.Need-flags-requires Inv-loop μ-loop
 flags-requires c κs = search needs
 
+volumes-requires : tie.Need-volumes-requires Inv-loop μ-loop
+volumes-requires c κs = search needs
+
 begin-requires : tie.Need-begin-requires Inv-loop μ-loop
 begin-requires c κs =
-    let z = c .before .before .before .before .before .before .before .before .before in
+    let z = c .before .before .before .before .before .before .before .before .before .before .before .before in
     let k = z .pre .0 .sized .least in omega arith
 
 loop-holds : tie.Need-loop-holds Inv-loop μ-loop
 loop-holds c =
     let b = c .before .before in
-    let z = b .before .before .before .before .before .before .before .before .before .before in
+    let z = b .before .before .before .before .before .before .before .before .before .before .before .before .before in
     run-none _ _ _ _ _ _ _ (z .pre .1) (z .pre .0) refl (b .begin .ensures) refl
 
 finish-requires : tie.Need-finish-requires Inv-loop μ-loop
 finish-requires c κs =
-    let t = c .before .before .before .before .before .before in
+    let t = c .before .before .before .before .before .before .before in
     let o = t .before in
-    let z = o .before .before .before .before .before .before .before .before .before .before .before .before .before in
+    let z = o .before .before .before .before .before .before .before .before .before .before .before .before .before .before .before .before in
     let p = o .loop .inv in
     let h = t .loop-test .taken in
     let e = z .pre .2 in
-    (p .lent, p .range .capture, p .range .place, omega arith, e ∙ sym (p .len))
+    (p .lent, p .range .capture, p .range .place, omega arith, e ∙ sym (p .len), o .before .before .before .before .volumes .ensures)
 
 add-k : tie.Need-add-k Inv-loop μ-loop
 add-k c =
-    let t = c .before .before .before .before .before .before .before .before .before .before .before .before .before in
+    let t = c .before .before .before .before .before .before .before .before .before .before .before .before .before .before in
     let o = t .before in
-    let z = o .before .before .before .before .before .before .before .before .before .before .before .before .before in
+    let z = o .before .before .before .before .before .before .before .before .before .before .before .before .before .before .before .before in
     let h = t .loop-test .taken in
     let e = z .pre .2 in
     let b : o .loop .k + 1 < length (z .args .cd .now) = omega arith in
@@ -65,7 +68,7 @@ add-k c =
 
 loop-less : tie.Need-loop-less Inv-loop μ-loop
 loop-less c =
-    let i = c .before .before .before .before .before .before .before .before .before .before .before .before in
+    let i = c .before .before .before .before .before .before .before .before .before .before .before .before .before in
     let t = i .before in
     let o = t .before in
     omega (arith, i .if1 .taken, t .loop-test .taken)
@@ -73,7 +76,7 @@ loop-less c =
 loop-again : tie.Need-loop-again Inv-loop μ-loop
 loop-again c =
     let g = c .before .before .before .before .before .before in
-    let i = g .before .before .before .before .before .before in
+    let i = g .before .before .before .before .before .before .before in
     let t = i .before in
     let o = t .before in
     run-tick (o .loop .inv) (t .loop-test .taken) (i .if1 .taken) (g .finish .ensures) refl
@@ -124,7 +127,7 @@ loop-again-2 c =
 settings-by-requires : tie.Need-settings-by-requires Inv-loop μ-loop
 settings-by-requires c κs =
     let i = c .before .before .before .before .before .before in
-    let f = i .before .before .before .before .before .before in
+    let f = i .before .before .before .before .before .before .before .before .before in
     let m = f .before .before .before in
     (omega (arith, i .if1 .left), m .modulation .ensures, f .flags .ensures)
 
@@ -142,7 +145,7 @@ glide-requires : tie.Need-glide-requires Inv-loop μ-loop
 glide-requires c κs =
     let i = c .before .before .before .before .before .before .before .before .before in
     let o = i .before .before in
-    let b = o .before .before .before .before .before .before .before .before .before .before in
+    let b = o .before .before .before .before .before .before .before .before .before .before .before .before .before in
     let r = o .loop .inv .play .all .each (o .loop .n) (omega (arith, i .if1 .left)) in
     (b .table .ensures, r .counter, r .index, r .envelope .level)
 
@@ -165,7 +168,7 @@ tick-requires : tie.Need-tick-requires Inv-loop μ-loop
 tick-requires c κs =
     let i = c .before .before .before .before .before .before .before .before .before .before .before .before .before .before .before .before .before in
     let o = i .before .before in
-    let b = o .before .before .before .before .before .before .before .before .before .before in
+    let b = o .before .before .before .before .before .before .before .before .before .before .before .before .before in
     let p = o .loop .inv in
     (b .table .ensures, p .lent, p .play .all .each _ (omega (arith, i .if1 .left)))
 
@@ -323,19 +326,19 @@ join-requires c κs = search needs
 same-length : tie.Need-same-length Inv-loop μ-loop
 same-length c =
     let o = c .before .before in
-    let z = o .before .before .before .before .before .before .before .before .before .before .before .before .before in
+    let z = o .before .before .before .before .before .before .before .before .before .before .before .before .before .before .before .before in
     (o .loop .inv .lent .ram-size ∙ sym (z .pre .0 .ram-size))
 
 same-length-2 : tie.Need-same-length-2 Inv-loop μ-loop
 same-length-2 c =
     let o = c .before .before in
-    let z = o .before .before .before .before .before .before .before .before .before .before .before .before .before in
+    let z = o .before .before .before .before .before .before .before .before .before .before .before .before .before .before .before .before in
     (omega (arith, o .loop .inv .lent .marks-size, z .pre .0 .marks-size))
 
 same-length-3 : tie.Need-same-length-3 Inv-loop μ-loop
 same-length-3 c =
     let o = c .before .before in
-    let z = o .before .before .before .before .before .before .before .before .before .before .before .before .before in
+    let z = o .before .before .before .before .before .before .before .before .before .before .before .before .before .before .before .before in
     o .loop .inv .len
 
 returns : tie.Need-returns Inv-loop μ-loop
@@ -353,6 +356,7 @@ run-spec =
     table-requires
     modulation-requires
     flags-requires
+    volumes-requires
     begin-requires
     loop-holds
     finish-requires

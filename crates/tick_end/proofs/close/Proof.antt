@@ -27,8 +27,8 @@ mixed-requires c κs = search needs
 at-requires : tie.Need-at-requires
 at-requires c κs = search needs
 
-add-t29 : tie.Need-add-t29
-add-t29 c =
+add-t30 : tie.Need-add-t30
+add-t30 c =
     let s = c .before .before .before .before .before .before .before .before .before .before .before .before .before .before .before .before .before .before .before .before .before .before in
     let k = s .pre .1 .below in omega arith
 
@@ -62,7 +62,7 @@ close-spec =
     turn-requires
     mixed-requires
     at-requires
-    add-t29
+    add-t30
     wrapping-add-u32-requires
     same-length
     same-length-2

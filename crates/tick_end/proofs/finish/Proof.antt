@@ -28,7 +28,7 @@ shared-slice-copy-out-right c = search needs
 close-requires : tie.Need-close-requires
 close-requires c κs =
     let z = c .before .before .before .before .before .before in
-    (z .pre .0, z .pre .1, z .pre .2)
+    (z .pre .0, z .pre .1, z .pre .2, z .pre .5)
 
 mul-heard-left : tie.Need-mul-heard-left
 mul-heard-left c =

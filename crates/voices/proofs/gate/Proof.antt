@@ -1,12 +1,13 @@
-use Rattle.voices.proofs.Shares.{gated-on, gated-off}
+use mir.Facts.{toZ-ofZ}
+use Rattle.voices.proofs.Shares.{gate-on, gate-off}
 use Rattle.voices.proofs.gate.Statement.{statement}
 use Rattle.voices.proofs.gate.Tie as tie
 
 returns : tie.Need-returns
-returns c = search gated-on
+returns c = gate-on _ (c .if1 .taken) (toZ-ofZ (c .before .fits .volume))
 
 returns-2 : tie.Need-returns-2
-returns-2 c = search gated-off
+returns-2 c = gate-off _ (c .if1 .left)
 
 pub gate-spec : {M : Type 1} → statement M
 gate-spec = tie.close (tie.spec returns returns-2)

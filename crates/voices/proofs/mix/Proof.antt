@@ -1,49 +1,47 @@
 use mathlib.Core.Path.{_≡_, refl}
-use Prim.Native.Nat.{_-_, _≤_}
+use Prim.Native.Nat.{_-_, _≤_, _<_}
 use native.Mathlib.Omega.{arith}
 use borrow.Author.Needs.{needs}
 use Rattle.voices.specs.Voices.{noSums, SidesIn, mixedOf}
-use Rattle.voices.proofs.Shares.{gated-in, joined-in, sides-few, silent-in, sides-end, mixed-dry, mixed-wet, mixed-all}
+use Rattle.voices.proofs.Shares.{joined-in, sides-few, silent-in, sides-end, mixed-dry, mixed-wet, mixed-all}
 use Rattle.voices.proofs.mix.Statement.{statement}
 use Rattle.voices.proofs.mix.Tie as tie
 
 abbrev Inv-loop : tie.InvT-loop
-Inv-loop regs amplitudes eon dry₀ wet₀ n₀ dry wet n =
+Inv-loop regs v amplitudes dry₀ wet₀ n₀ dry wet n =
     (n ≤ 24) × (dry ≡ mixedOf regs amplitudes n .dry) × (wet ≡ mixedOf regs amplitudes n .wet) × SidesIn n dry × SidesIn n wet
 
 abbrev μ-loop : tie.MeasureT-loop
-μ-loop regs amplitudes eon dry₀ wet₀ n₀ dry wet n = 24 - n
-
-flags-requires : tie.Need-flags-requires Inv-loop μ-loop
-flags-requires c κs = search needs
+μ-loop regs v amplitudes dry₀ wet₀ n₀ dry wet n = 24 - n
 
 loop-holds : tie.Need-loop-holds Inv-loop μ-loop
 unfolding noSums mixedOf
 loop-holds c = (omega arith, refl, refl, silent-in, silent-in)
 
-mul-both-sides : tie.Need-mul-both-sides Inv-loop μ-loop
-mul-both-sides c = search needs
+mul-a : tie.Need-mul-a Inv-loop μ-loop
+mul-a c = search needs
 
-array-copy-out-both-sides : tie.Need-array-copy-out-both-sides Inv-loop μ-loop
-array-copy-out-both-sides c = search needs
+array-copy-out-a : tie.Need-array-copy-out-a Inv-loop μ-loop
+array-copy-out-a c = search needs
 
 both-sides-requires : tie.Need-both-sides-requires Inv-loop μ-loop
 both-sides-requires c κs = search needs
 
 join-requires : tie.Need-join-requires Inv-loop μ-loop
-join-requires c κs = let l = c .before .before in (sides-few _ _ (omega (arith, l .loop-test .taken)) (l .before .loop .inv .3), c .both-sides .ensures .1)
+join-requires c κs =
+    let t = c .before .before in
+    (sides-few _ _ (omega (arith, t .loop-test .taken)) (t .before .loop .inv .3), c .both-sides .ensures .1)
 
-has-requires : tie.Need-has-requires Inv-loop μ-loop
-has-requires c κs = search needs
+add-both-sides : tie.Need-add-both-sides Inv-loop μ-loop
+add-both-sides c = search needs
 
-gate-requires : tie.Need-gate-requires Inv-loop μ-loop
-gate-requires c κs = search needs
+both-sides-requires-2 : tie.Need-both-sides-requires-2 Inv-loop μ-loop
+both-sides-requires-2 c κs = search needs
 
 join-requires-2 : tie.Need-join-requires-2 Inv-loop μ-loop
 join-requires-2 c κs =
-    let b = c .before .before .before in
-    let l = b .before .before in
-    (sides-few _ _ (omega (arith, l .loop-test .taken)) (l .before .loop .inv .4), gated-in _ _ (c .gate .ensures) (b .both-sides .ensures .1))
+    let t = c .before .before .before .before in
+    (sides-few _ _ (omega (arith, t .loop-test .taken)) (t .before .loop .inv .4), c .both-sides2 .ensures .1)
 
 add-n : tie.Need-add-n Inv-loop μ-loop
 add-n c = search needs
@@ -54,16 +52,18 @@ loop-less c = search needs
 loop-again : tie.Need-loop-again Inv-loop μ-loop
 loop-again c =
     let g = c .before in
-    let j = g .before .before in
+    let j = g .before in
     let b = j .before in
-    let l = b .before .before in
-    let v = l .before .loop .inv in
-    let h = b .both-sides .ensures in (
-      omega (arith, l .loop-test .taken),
-      mixed-dry _ _ _ (search (needs, b .before .both-sides-arg .given)) (h .0) (v .1) (j .join .ensures),
-      mixed-wet _ _ _ (search (needs, b .before .both-sides-arg .given)) (h .0) _ (l .before .before .flags .ensures) (omega (arith, l .loop-test .taken)) (v .2) (g .before .has .ensures) (g .gate .ensures) (c .join2 .ensures),
-      joined-in _ _ _ (j .join .ensures) (v .3) (h .1),
-      joined-in _ _ _ (c .join2 .ensures) (v .4) (gated-in _ _ (g .gate .ensures) (h .1)),
+    let e = b .before in
+    let t = e .before in
+    let z = t .before .before in
+    let v = t .before .loop .inv in
+    let h : t .before .loop .n < 24 = omega (arith, t .loop-test .taken) in (
+      omega arith,
+      mixed-dry _ _ _ _ (z .pre) h (search (needs, e .a .given)) (v .1) (b .both-sides .ensures .0) (j .join .ensures),
+      mixed-wet _ _ _ _ (z .pre) h (search (needs, e .a .given)) (v .2) (g .both-sides2 .ensures .0) (c .join2 .ensures),
+      joined-in _ _ _ (j .join .ensures) (v .3) (b .both-sides .ensures .1),
+      joined-in _ _ _ (c .join2 .ensures) (v .4) (g .both-sides2 .ensures .1),
     )
 
 array-copy-out-t18 : tie.Need-array-copy-out-t18 Inv-loop μ-loop
@@ -90,14 +90,13 @@ mix-spec =
     (tie.spec
     Inv-loop
     μ-loop
-    flags-requires
     loop-holds
-    mul-both-sides
-    array-copy-out-both-sides
+    mul-a
+    array-copy-out-a
     both-sides-requires
     join-requires
-    has-requires
-    gate-requires
+    add-both-sides
+    both-sides-requires-2
     join-requires-2
     add-n
     loop-less

@@ -1,28 +1,33 @@
-use borrow.Author.Needs.{needs}
-use mir.Syntax.{w16, w32}
-use Rattle.fixed.proofs.Number.{Num, arg, ok, said, prod, hold, need, is, range, wide}
-use Rattle.voices.specs.Voices.{sideOf}
+use mir.Syntax.{w32}
+use Rattle.fixed.specs.Arithmetic.{productOf}
+use Rattle.fixed.proofs.Number.{Num, arg, hold, mul, shr, need, is, range, wide}
 use Rattle.voices.proofs.side.Statement.{statement}
 use Rattle.voices.proofs.side.Tie as tie
 
 abbrev a : tie.Start → Num
 a c = arg (c .fits .amplitude)
 
-abbrev p : tie.After-product → Num
-p c = prod (hold w32 (a (c .before .before)) tt) (said (ok w16 (c .before .volume .result) (c .before .volume .ok)) (c .before .volume .ensures)) (c .product .ensures) tt
+abbrev b : tie.Start → Num
+b c = arg (c .fits .volume)
 
-cast-product : tie.Need-cast-product
-cast-product c = need (a c) tt
+abbrev p : tie.Start → Num
+p c = mul (hold w32 (a c) tt) (hold w32 (b c) tt)
 
-volume-requires : tie.Need-volume-requires
-volume-requires c κs = search needs
+abbrev q : tie.Start → Num
+q c = hold w32 (shr 0x8000 tt (hold w32 (p c) tt)) tt
 
-product-requires : tie.Need-product-requires
-product-requires c κs = wide (range (hold w32 (a (c .before)) tt)) tt
+cast-result : tie.Need-cast-result
+cast-result c = need (a c) tt
+
+cast-result-2 : tie.Need-cast-result-2
+cast-result-2 c = need (b c) tt
+
+mul-result : tie.Need-mul-result
+mul-result c = need (p c) tt
 
 returns : tie.Need-returns
-unfolding sideOf
-returns c = (is (p c), wide (range (p c)) tt)
+unfolding productOf
+returns c = (is (q c), wide (range (q c)) tt)
 
 pub side-spec : {M : Type 1} → statement M
-side-spec = tie.close (tie.spec cast-product volume-requires product-requires returns)
+side-spec = tie.close (tie.spec cast-result cast-result-2 mul-result returns)
