@@ -75,16 +75,16 @@ pub fn volumes(regs: &[u16; 256]) -> [i16; 96]
 {
     let eon = registers::flags(regs, 0x198);
     let mut v = [0i16; 96];
-    for n in 0..24usize {
-        let left = fixed::volume(registers::of_voice(regs, n, 0));
-        let right = fixed::volume(registers::of_voice(regs, n, 2));
-        let wet = registers::has(eon, n);
+    for i in 0..24usize {
+        let left = fixed::volume(registers::of_voice(regs, i, 0));
+        let right = fixed::volume(registers::of_voice(regs, i, 2));
+        let wet = registers::has(eon, i);
         let wet_left = gate(wet, left);
         let wet_right = gate(wet, right);
-        v[n] = left;
-        v[n + 24] = right;
-        v[n + 48] = wet_left;
-        v[n + 72] = wet_right;
+        v[i] = left;
+        v[i + 24] = right;
+        v[i + 48] = wet_left;
+        v[i + 72] = wet_right;
     }
     v
 }

@@ -75,8 +75,8 @@ mul-v-4 c = search needs
 array-set-from-v-4 : tie.Need-array-set-from-v-4 Inv-loop μ-loop
 array-set-from-v-4 c = search needs
 
-add-n : tie.Need-add-n Inv-loop μ-loop
-add-n c = search needs
+add-i : tie.Need-add-i Inv-loop μ-loop
+add-i c = search needs
 
 loop-less : tie.Need-loop-less Inv-loop μ-loop
 loop-less c = search needs
@@ -91,7 +91,7 @@ loop-again c =
     let p = l .before in
     let t = p .before in
     let f = t .before .before .flags .ensures in
-    let m : t .before .loop .n < 24 = omega (arith, t .loop-test .taken) in
+    let m : t .before .loop .i < 24 = omega (arith, t .loop-test .taken) in
     let x = passed w16 (l .volume .ok) (l .volume .ensures ∙ ap volumeOf (p .of-voice .ensures)) in
     let y = passed w16 (r .volume2 .ok) (r .volume2 .ensures ∙ ap volumeOf (q .of-voice2 .ensures)) in
     filled-more _ _ _ (t .before .loop .inv) m x y (passed w16 (d .gate .ok) (gated-by _ _ _ f m (h .has .ensures) (d .gate .ensures) x)) (passed w16 (c .gate2 .ok) (gated-by _ _ _ f m (h .has .ensures) (c .gate2 .ensures) y))
@@ -125,7 +125,7 @@ volumes-spec =
     add-v-3
     mul-v-4
     array-set-from-v-4
-    add-n
+    add-i
     loop-less
     loop-again
     returns)
