@@ -73,7 +73,7 @@ pub fn fetch(v: Voice, who: Reader, size: u32, ram: &[u8], marks: &[u8], w: Watc
     requires { ⌜ Lent size (now ram) (now marks) × (v .source .address .0 < size) ⌝ }
     ensures { λ r. ⌜ Does (loadOf who size v) (memOf (now (ram .entry)) (now (marks .entry)) w) (r .voice) (memOf (now (ram .entry)) (now (marks .entry)) (r .watch)) ⌝ }
 {
-    let b = access::load(ram, marks, who, size, v.source.address, w);
+    let b = access_block::load(ram, marks, who, size, v.source.address, w);
     let bytes = b.bytes;
     let voice = fill(v, bytes);
     let watch = b.watch;

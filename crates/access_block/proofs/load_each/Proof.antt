@@ -7,8 +7,8 @@ use Rattle.soundram.specs.Program.{Does, memOf, bytesFrom}
 use Rattle.soundram.proofs.Addresses.{forward-below}
 use Rattle.soundram.proofs.Programs.{within}
 use Rattle.soundram.proofs.Blocks.{bytes-none, bytes-more, bytes-end}
-use Rattle.access.proofs.load_each.Statement.{statement}
-use Rattle.access.proofs.load_each.Tie as tie
+use Rattle.access_block.proofs.load_each.Statement.{statement}
+use Rattle.access_block.proofs.load_each.Tie as tie
 
 abbrev Inv-loop : tie.InvT-loop
 Inv-loop ram marks who size a bytes₀ watch₀ i₀ bytes watch i = (i ≤ 8) × (length bytes ≡ 16) × Does (bytesFrom who size a i) (memOf ram marks watch₀) (take (i * 2) bytes) (memOf ram marks watch)

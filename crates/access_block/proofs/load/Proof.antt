@@ -4,9 +4,9 @@ use native.Mathlib.Omega.{arith}
 use lib.Dec.{eqb}
 use borrow.Author.Tests.{eqb-true}
 use borrow.Author.Needs.{needs}
-use Rattle.access.proofs.Whole.{and-first, and-rest, whole-does}
-use Rattle.access.proofs.load.Statement.{statement}
-use Rattle.access.proofs.load.Tie as tie
+use Rattle.access_block.proofs.Whole.{and-first, and-rest, whole-does}
+use Rattle.access_block.proofs.load.Statement.{statement}
+use Rattle.access_block.proofs.load.Tie as tie
 
 cast-i : tie.Need-cast-i
 cast-i c = search needs

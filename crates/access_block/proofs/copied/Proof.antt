@@ -3,9 +3,9 @@ use Prim.Native.Nat.{_+_, _-_, _≤_}
 use native.Mathlib.Omega.{arith}
 use borrow.Author.Needs.{needs}
 use lib.ListN.{length}
-use Rattle.access.proofs.Whole.{Copied, copied-more}
-use Rattle.access.proofs.copied.Statement.{statement}
-use Rattle.access.proofs.copied.Tie as tie
+use Rattle.access_block.proofs.Whole.{Copied, copied-more}
+use Rattle.access_block.proofs.copied.Statement.{statement}
+use Rattle.access_block.proofs.copied.Tie as tie
 
 abbrev Inv-loop : tie.InvT-loop
 Inv-loop ram from bytes₀ i₀ bytes i = (i ≤ 16) × (length bytes ≡ 16) × Copied ram bytes from i
