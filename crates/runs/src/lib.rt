@@ -83,9 +83,9 @@ pub fn run(s: State, ram: &mut [u8], marks: &mut [u8], cd: &[i16], out: &mut [i1
             k = k + 1;
             continue;
         }
-        let x = voices[n];
-        let e = x.envelope;
-        let phase = e.phase;
+        let first = voices[n];
+        let before = first.envelope;
+        let phase = before.phase;
         if voice::is_idle(phase) {
             below = 0;
             amplitudes[n] = 0;
@@ -93,8 +93,8 @@ pub fn run(s: State, ram: &mut [u8], marks: &mut [u8], cd: &[i16], out: &mut [i1
             continue;
         }
         let set = voices::settings_by(&s.regs, pmon, non, n);
-        let here = voices[n];
-        let m = voice_tick::glide(&table, here, set, below, g.noise.level);
+        let x = voices[n];
+        let m = voice_tick::glide(&table, first, set, below, g.noise.level);
         if !x.playing.loaded | (27 < m.target) {
             let v = voices[n];
             let t = voice_tick::tick(
@@ -133,6 +133,7 @@ pub fn run(s: State, ram: &mut [u8], marks: &mut [u8], cd: &[i16], out: &mut [i1
             n = n + 1;
             continue;
         }
+        let e = x.envelope;
         let stepped = envelope_tick::tick(e, set.low, set.high);
         y.envelope = stepped;
         voices[n] = y;

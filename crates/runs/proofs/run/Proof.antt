@@ -81,13 +81,13 @@ loop-again c =
     let o = t .before in
     run-tick (o .loop .inv) (t .loop-test .taken) (i .if1 .taken) (g .finish .ensures) refl
 
-mul-x : tie.Need-mul-x Inv-loop μ-loop
-mul-x c =
+mul-first : tie.Need-mul-first Inv-loop μ-loop
+mul-first c =
     let i = c in
     record { fits = omega (arith, i .if1 .left) }
 
-array-copy-out-x : tie.Need-array-copy-out-x Inv-loop μ-loop
-array-copy-out-x c =
+array-copy-out-first : tie.Need-array-copy-out-first Inv-loop μ-loop
+array-copy-out-first c =
     let i = c in
     search (needs, i .if1 .left)
 
@@ -131,13 +131,13 @@ settings-by-requires c κs =
     let m = f .before .before .before in
     (omega (arith, i .if1 .left), m .modulation .ensures, f .flags .ensures)
 
-mul-here : tie.Need-mul-here Inv-loop μ-loop
-mul-here c =
+mul-x : tie.Need-mul-x Inv-loop μ-loop
+mul-x c =
     let i = c .before .before .before .before .before .before .before in
     record { fits = omega (arith, i .if1 .left) }
 
-array-copy-out-here : tie.Need-array-copy-out-here Inv-loop μ-loop
-array-copy-out-here c =
+array-copy-out-x : tie.Need-array-copy-out-x Inv-loop μ-loop
+array-copy-out-x c =
     let i = c .before .before .before .before .before .before .before in
     search (needs, i .if1 .left)
 
@@ -281,28 +281,28 @@ tick-requires-2 c κs = search needs
 
 mul-voices-3 : tie.Need-mul-voices-3 Inv-loop μ-loop
 mul-voices-3 c =
-    let i = c .before .before .before .before .before .before .before .before .before .before .before .before .before .before .before .before .before .before .before .before in
+    let i = c .before .before .before .before .before .before .before .before .before .before .before .before .before .before .before .before .before .before .before .before .before in
     record { fits = omega (arith, i .if1 .left) }
 
 array-set-from-voices-3 : tie.Need-array-set-from-voices-3 Inv-loop μ-loop
 array-set-from-voices-3 c =
-    let i = c .before .before .before .before .before .before .before .before .before .before .before .before .before .before .before .before .before .before .before .before in
+    let i = c .before .before .before .before .before .before .before .before .before .before .before .before .before .before .before .before .before .before .before .before .before in
     search (needs, i .if1 .left)
 
 add-n-4 : tie.Need-add-n-4 Inv-loop μ-loop
 add-n-4 c =
-    let i = c .before .before .before .before .before .before .before .before .before .before .before .before .before .before .before .before .before .before .before .before in
+    let i = c .before .before .before .before .before .before .before .before .before .before .before .before .before .before .before .before .before .before .before .before .before in
     record { fits = omega (arith, i .if1 .left) }
 
 loop-less-5 : tie.Need-loop-less-5 Inv-loop μ-loop
 loop-less-5 c =
-    let i = c .before .before .before .before .before .before .before .before .before .before .before .before .before .before .before .before .before .before .before .before in
+    let i = c .before .before .before .before .before .before .before .before .before .before .before .before .before .before .before .before .before .before .before .before .before in
     let t = i .before in
     omega (arith, i .if1 .left, t .loop-test .taken)
 
 loop-again-5 : tie.Need-loop-again-5 Inv-loop μ-loop
 loop-again-5 c =
-    let q = c .before in
+    let q = c .before .before in
     let w = q .before in
     let u = w .before in
     let y = u .before .before .before .before in
@@ -363,8 +363,8 @@ run-spec =
     add-k
     loop-less
     loop-again
-    mul-x
-    array-copy-out-x
+    mul-first
+    array-copy-out-first
     is-idle-requires
     mul-amplitudes
     array-set-of-amplitudes
@@ -372,8 +372,8 @@ run-spec =
     loop-less-2
     loop-again-2
     settings-by-requires
-    mul-here
-    array-copy-out-here
+    mul-x
+    array-copy-out-x
     glide-requires
     mul-v
     array-copy-out-v
