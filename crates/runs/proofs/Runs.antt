@@ -7,12 +7,18 @@ use native.Mathlib.Numerals.{add-one}
 use native.Mathlib.Omega.{arith}
 use lib.ListN.{length, getD, set, length-set}
 use lib.IntN.{ℤ, pos}
-use Rattle.noise.specs.Noise.{tickedOf}
+use Rattle.envelope.specs.declared.Envelope.{Envelope}
+use Rattle.envelope.specs.Adsr.{tickedOf}
+use Rattle.noise.specs.Noise.{tickedOf as noiseOf}
 use Rattle.soundram.specs.declared.Watch.{Watch}
 use Rattle.soundram.specs.Address.{Lent}
 use Rattle.soundram.specs.Program.{memOf, Does}
 use Rattle.soundram.proofs.Programs.{does-kept, always-does, lent-after}
-use Rattle.registers.specs.Map.{registerAt}
+use Rattle.fixed.specs.Bits.{bit}
+use Rattle.registers.specs.Map.{registerAt, ofVoice, Flags}
+use Rattle.voice.specs.declared.Settings.{Settings}
+use Rattle.voice.specs.Voice.{soundOf, amplitudeOf, movementOf, targetOf}
+use Rattle.voices.specs.Voices.{Modulated, settingsOf}
 use Rattle.voice.specs.declared.Voice.{Voice}
 use Rattle.voices.proofs.Turns.{Play, play-none, play-all, play-before}
 use Rattle.chip.specs.declared.State.{State}
@@ -25,7 +31,7 @@ use Rattle.tick.specs.Tick.{tickOf}
 use Rattle.tick.specs.Run.{joinOf, beginOf, Finishes}
 use Rattle.tick.proofs.Parts.{tick-does}
 use Rattle.tick.proofs.Range.{tick-in}
-use Rattle.runs.specs.Run.{Run, tickedBy, ranOf}
+use Rattle.runs.specs.Run.{Run, tickedBy, ranOf, Toned}
 
 pub or-first : (a b : Bool) → (a || b) ≡ false → a ≡ false
 or-first false b e = refl
@@ -34,6 +40,28 @@ or-first true b e = e
 pub or-rest : (a b : Bool) → (a || b) ≡ false → b ≡ false
 or-rest false b e = e
 or-rest true b e = absurd (subst (λ (c : Bool). cond c (Unit {0}) ⊥) e tt)
+
+-- ---- of a voice's settings, what a tick looks at: t has the same pitch, modulation and noise as s
+
+pub tone-as : (regs : List ℕ) (n : ℕ) {pmon non p : ℕ} {m o : Bool} → n < 24 → Modulated regs pmon → Flags regs 0x194 non → p ≡ ofVoice regs n 4 → m ≡ bit n pmon → o ≡ bit n non
+    → Toned (settingsOf regs n) (record { pitch = p; low = 0; high = 0; modulated = m; noise = o })
+unfolding settingsOf
+tone-as regs n h f g e q r = record { pitch = e; modulated = q ∙ f .each n h; noise = r ∙ g .each n h }
+
+module _ {s t : Settings} (e : Toned s t) (below : ℤ) (v : Voice) where
+  pub tone-counter : {c : ℕ} → c ≡ movementOf t below v .counter → c ≡ movementOf s below v .counter
+  tone-counter p = p ∙ rw (e .pitch, e .modulated)
+
+  pub tone-target : {i : ℕ} → i ≡ targetOf t below v → i ≡ targetOf s below v
+  unfolding targetOf
+  tone-target p = p ∙ rw (e .pitch, e .modulated)
+
+  pub tone-amplitude : (level : ℕ) {a : ℤ} → a ≡ amplitudeOf t level v → a ≡ amplitudeOf s level v
+  unfolding amplitudeOf soundOf
+  tone-amplitude level p = p ∙ rw (e .noise)
+
+pub stepped-as : {s z : Settings} (e : Envelope) {x : Envelope} → s ≡ z → x ≡ tickedOf e (s .low) (s .high) → x ≡ tickedOf e (z .low) (z .high)
+stepped-as e p q = rw p at q
 
 -- tick k, from what it does
 ticked-as : (cd : List ℤ) (k : ℕ) (t : State) (ram marks : List ℕ) (out : List ℤ) (irq doubt : ℕ) {v w : Watch} {p : Pair} {u : State} {ram′ marks′ : List ℕ} → v ≡ watchOf t
@@ -81,7 +109,7 @@ pub record Running (s : State) (cd : List ℤ) (f : Run) (count k n : ℕ) (vs :
   pub ran : ranOf cd k f ≡ record { state = joinOf s old (g .rest) (g .watch); ram = ram; marks = marks; out = out; irq = g .irq; doubt = g .doubt }
   pub range : InRange (joinOf s old (g .rest) (g .watch))
   pub watching : g .watch ≡ watchOf (joinOf s old (g .rest) (g .watch))
-  pub noise : g .noise ≡ tickedOf (g .rest .noise) (registerAt (s .regs) 0x1AA)
+  pub noise : g .noise ≡ noiseOf (g .rest .noise) (registerAt (s .regs) 0x1AA)
   pub lent : Lent (s .choices .size) ram marks
   pub len : length out ≡ length (f .out)
   pub play : Play (s .choices .size) (s .regs) (g .noise .level) old (memOf ram marks (g .watch)) n vs hs b (memOf ram marks w)

@@ -11,7 +11,7 @@ use Rattle.envelope.proofs.Ticks.{waits-some, waits-ticked}
 use Rattle.voice.proofs.Ticks.{tick-stays}
 use Rattle.voices.specs.Voices.{pastEnd}
 use Rattle.voices.proofs.Turns.{play-more, play-idle}
-use Rattle.runs.proofs.Runs.{Running, run-none, run-voice, run-tick, run-all, or-first, or-rest}
+use Rattle.runs.proofs.Runs.{Running, run-none, run-voice, run-tick, run-all, or-first, or-rest, tone-counter, tone-target, tone-amplitude, stepped-as}
 use Rattle.runs.proofs.run.Statement.{statement}
 use Rattle.runs.proofs.run.Tie as tie
 
@@ -124,8 +124,8 @@ loop-again-2 c =
     let p = o .loop .inv in
     run-voice p (t .loop-test .taken) (play-idle (p .lent .sized) (p .play) (omega (arith, i .if1 .left)) (j .is-idle .ensures) (c .if2 .taken))
 
-settings-by-requires : tie.Need-settings-by-requires Inv-loop μ-loop
-settings-by-requires c κs =
+tone-requires : tie.Need-tone-requires Inv-loop μ-loop
+tone-requires c κs =
     let i = c .before .before .before .before .before .before in
     let f = i .before .before .before .before .before .before .before .before .before in
     let m = f .before .before .before in
@@ -159,14 +159,21 @@ array-copy-out-v c =
     let i = c .before .before .before .before .before .before .before .before .before .before .before .before .before in
     search (needs, i .if1 .left)
 
+settings-by-requires : tie.Need-settings-by-requires Inv-loop μ-loop
+settings-by-requires c κs =
+    let i = c .before .before .before .before .before .before .before .before .before .before .before .before .before .before .before .before in
+    let f = i .before .before .before .before .before .before .before .before .before in
+    let m = f .before .before .before in
+    (omega (arith, i .if1 .left), m .modulation .ensures, f .flags .ensures)
+
 cast-tick : tie.Need-cast-tick Inv-loop μ-loop
 cast-tick c =
-    let i = c .before .before .before .before .before .before .before .before .before .before .before .before .before .before .before in
+    let i = c .before .before .before .before .before .before .before .before .before .before .before .before .before .before .before .before .before .before in
     record { fits = omega (arith, i .if1 .left) }
 
 tick-requires : tie.Need-tick-requires Inv-loop μ-loop
 tick-requires c κs =
-    let i = c .before .before .before .before .before .before .before .before .before .before .before .before .before .before .before .before .before in
+    let i = c .before .before .before .before .before .before .before .before .before .before .before .before .before .before .before .before .before .before .before .before in
     let o = i .before .before in
     let b = o .before .before .before .before .before .before .before .before .before .before .before .before .before in
     let p = o .loop .inv in
@@ -174,44 +181,45 @@ tick-requires c κs =
 
 mul-voices : tie.Need-mul-voices Inv-loop μ-loop
 mul-voices c =
-    let i = c .before .before .before .before .before .before .before .before .before .before .before .before .before .before .before .before .before .before .before .before in
+    let i = c .before .before .before .before .before .before .before .before .before .before .before .before .before .before .before .before .before .before .before .before .before .before .before in
     record { fits = omega (arith, i .if1 .left) }
 
 array-set-from-voices : tie.Need-array-set-from-voices Inv-loop μ-loop
 array-set-from-voices c =
-    let i = c .before .before .before .before .before .before .before .before .before .before .before .before .before .before .before .before .before .before .before .before in
+    let i = c .before .before .before .before .before .before .before .before .before .before .before .before .before .before .before .before .before .before .before .before .before .before .before in
     search (needs, i .if1 .left)
 
 mul-amplitudes-2 : tie.Need-mul-amplitudes-2 Inv-loop μ-loop
 mul-amplitudes-2 c =
-    let i = c .before .before .before .before .before .before .before .before .before .before .before .before .before .before .before .before .before .before .before .before .before in
+    let i = c .before .before .before .before .before .before .before .before .before .before .before .before .before .before .before .before .before .before .before .before .before .before .before .before in
     record { fits = omega (arith, i .if1 .left) }
 
 array-set-from-amplitudes : tie.Need-array-set-from-amplitudes Inv-loop μ-loop
 array-set-from-amplitudes c =
-    let i = c .before .before .before .before .before .before .before .before .before .before .before .before .before .before .before .before .before .before .before .before .before in
+    let i = c .before .before .before .before .before .before .before .before .before .before .before .before .before .before .before .before .before .before .before .before .before .before .before .before in
     search (needs, i .if1 .left)
 
 add-n-2 : tie.Need-add-n-2 Inv-loop μ-loop
 add-n-2 c =
-    let i = c .before .before .before .before .before .before .before .before .before .before .before .before .before .before .before .before .before .before .before .before .before in
+    let i = c .before .before .before .before .before .before .before .before .before .before .before .before .before .before .before .before .before .before .before .before .before .before .before .before in
     record { fits = omega (arith, i .if1 .left) }
 
 loop-less-3 : tie.Need-loop-less-3 Inv-loop μ-loop
 loop-less-3 c =
-    let i = c .before .before .before .before .before .before .before .before .before .before .before .before .before .before .before .before .before .before .before .before .before in
+    let i = c .before .before .before .before .before .before .before .before .before .before .before .before .before .before .before .before .before .before .before .before .before .before .before .before in
     let t = i .before in
     omega (arith, i .if1 .left, t .loop-test .taken)
 
 loop-again-3 : tie.Need-loop-again-3 Inv-loop μ-loop
 loop-again-3 c =
     let a = c .before .before .before in
-    let b = a .before .before .before .before .before .before .before .before .before .before .before in
+    let d = a .before .before .before .before in
+    let b = d .before .before .before .before .before .before .before .before .before .before in
     let i = b .before .before .before .before .before .before .before in
     let t = i .before in
     let o = t .before in
     let p = o .loop .inv in
-    run-voice p (t .loop-test .taken) (play-more (p .lent .sized) (p .play) (omega (arith, i .if1 .left)) (b .settings-by .ensures) (a .tick .ensures) (search (needs, c .struct-told .given)))
+    run-voice p (t .loop-test .taken) (play-more (p .lent .sized) (p .play) (omega (arith, i .if1 .left)) (d .settings-by .ensures) (a .tick .ensures) (search (needs, c .struct-told .given)))
 
 cast-index : tie.Need-cast-index Inv-loop μ-loop
 cast-index c = search needs
@@ -271,38 +279,48 @@ loop-again-4 c =
     let o = t .before in
     let p = o .loop .inv in
     let e = g .glide .ensures in
-    let l = not (getD (o .loop .voices) (o .loop .n) pastEnd .playing .loaded) in
-    run-voice p (t .loop-test .taken) (play-more (p .lent .sized) (p .play) (omega (arith, i .if1 .left)) (b .settings-by .ensures)
-    (tick-stays _ _ _ _ _ _ _ (j .is-idle .ensures) (f .if2 .left) (or-first l _ (y .if3 .left)) (e .0) (e .1) (ltb-false _ _ (or-rest l _ (y .if3 .left))) (e .3) (waits-ticked _ (w .waits .ensures) (q .if4 .taken) _ _))
+    let k = b .tone .ensures in
+    let v = getD (o .loop .voices) (o .loop .n) pastEnd in
+    let l = not (v .playing .loaded) in
+    run-voice p (t .loop-test .taken) (play-more (p .lent .sized) (p .play) (omega (arith, i .if1 .left)) refl
+    (tick-stays _ _ _ _ _ _ _ (j .is-idle .ensures) (f .if2 .left) (or-first l _ (y .if3 .left)) (tone-counter k _ v (e .0)) (tone-target k _ v (e .1)) (ltb-false _ _ (or-rest l _ (y .if3 .left))) (tone-amplitude k (toZ w16 (o .loop .below)) v _ (e .3)) (waits-ticked _ (w .waits .ensures) (q .if4 .taken) _ _))
     (search (needs, u .struct-told2 .given)))
+
+settings-by-requires-2 : tie.Need-settings-by-requires-2 Inv-loop μ-loop
+settings-by-requires-2 c κs =
+    let i = c .before .before .before .before .before .before .before .before .before .before .before .before .before .before .before .before .before .before .before .before .before .before in
+    let f = i .before .before .before .before .before .before .before .before .before in
+    let m = f .before .before .before in
+    (omega (arith, i .if1 .left), m .modulation .ensures, f .flags .ensures)
 
 tick-requires-2 : tie.Need-tick-requires-2 Inv-loop μ-loop
 tick-requires-2 c κs = search needs
 
 mul-voices-3 : tie.Need-mul-voices-3 Inv-loop μ-loop
 mul-voices-3 c =
-    let i = c .before .before .before .before .before .before .before .before .before .before .before .before .before .before .before .before .before .before .before .before .before in
+    let i = c .before .before .before .before .before .before .before .before .before .before .before .before .before .before .before .before .before .before .before .before .before .before .before .before in
     record { fits = omega (arith, i .if1 .left) }
 
 array-set-from-voices-3 : tie.Need-array-set-from-voices-3 Inv-loop μ-loop
 array-set-from-voices-3 c =
-    let i = c .before .before .before .before .before .before .before .before .before .before .before .before .before .before .before .before .before .before .before .before .before in
+    let i = c .before .before .before .before .before .before .before .before .before .before .before .before .before .before .before .before .before .before .before .before .before .before .before .before in
     search (needs, i .if1 .left)
 
 add-n-4 : tie.Need-add-n-4 Inv-loop μ-loop
 add-n-4 c =
-    let i = c .before .before .before .before .before .before .before .before .before .before .before .before .before .before .before .before .before .before .before .before .before in
+    let i = c .before .before .before .before .before .before .before .before .before .before .before .before .before .before .before .before .before .before .before .before .before .before .before .before in
     record { fits = omega (arith, i .if1 .left) }
 
 loop-less-5 : tie.Need-loop-less-5 Inv-loop μ-loop
 loop-less-5 c =
-    let i = c .before .before .before .before .before .before .before .before .before .before .before .before .before .before .before .before .before .before .before .before .before in
+    let i = c .before .before .before .before .before .before .before .before .before .before .before .before .before .before .before .before .before .before .before .before .before .before .before .before in
     let t = i .before in
     omega (arith, i .if1 .left, t .loop-test .taken)
 
 loop-again-5 : tie.Need-loop-again-5 Inv-loop μ-loop
 loop-again-5 c =
-    let q = c .before .before in
+    let d = c .before in
+    let q = d .before .before .before .before in
     let w = q .before in
     let u = w .before in
     let y = u .before .before .before .before in
@@ -315,9 +333,11 @@ loop-again-5 c =
     let o = t .before in
     let p = o .loop .inv in
     let e = g .glide .ensures in
-    let l = not (getD (o .loop .voices) (o .loop .n) pastEnd .playing .loaded) in
-    run-voice p (t .loop-test .taken) (play-more (p .lent .sized) (p .play) (omega (arith, i .if1 .left)) (b .settings-by .ensures)
-    (tick-stays _ _ _ _ _ _ _ (j .is-idle .ensures) (f .if2 .left) (or-first l _ (y .if3 .left)) (e .0) (e .1) (ltb-false _ _ (or-rest l _ (y .if3 .left))) (e .3) (c .tick2 .ensures))
+    let k = b .tone .ensures in
+    let v = getD (o .loop .voices) (o .loop .n) pastEnd in
+    let l = not (v .playing .loaded) in
+    run-voice p (t .loop-test .taken) (play-more (p .lent .sized) (p .play) (omega (arith, i .if1 .left)) refl
+    (tick-stays _ _ _ _ _ _ _ (j .is-idle .ensures) (f .if2 .left) (or-first l _ (y .if3 .left)) (tone-counter k _ v (e .0)) (tone-target k _ v (e .1)) (ltb-false _ _ (or-rest l _ (y .if3 .left))) (tone-amplitude k (toZ w16 (o .loop .below)) v _ (e .3)) (stepped-as (v .envelope) (d .settings-by2 .ensures) (c .tick2 .ensures)))
     (search (needs, u .struct-told2 .given)))
 
 join-requires : tie.Need-join-requires Inv-loop μ-loop
@@ -371,12 +391,13 @@ run-spec =
     add-n
     loop-less-2
     loop-again-2
-    settings-by-requires
+    tone-requires
     mul-x
     array-copy-out-x
     glide-requires
     mul-v
     array-copy-out-v
+    settings-by-requires
     cast-tick
     tick-requires
     mul-voices
@@ -396,6 +417,7 @@ run-spec =
     add-n-3
     loop-less-4
     loop-again-4
+    settings-by-requires-2
     tick-requires-2
     mul-voices-3
     array-set-from-voices-3
