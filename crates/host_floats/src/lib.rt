@@ -19,7 +19,7 @@ fn to_floats(out: &[i16], floats: &mut [f32])
     }
 }
 
-// The same, and its samples as floats beside.
+// A run, and its samples as floats beside.
 pub fn run_floats(
     s: State,
     ram: &mut [u8],

@@ -1,6 +1,5 @@
 // A state as bytes, for hosts that keep it so: `load` reads the state out of bytes that are its image; `image_store` writes them.
 ghost use mathlib.Core.Path.{_≡_};
-ghost use mathlib.Core.Bool.{true};
 ghost use Prim.Native.Nat.{_+_, _*_, _≤_, _<_};
 ghost use lib.ListN.{length};
 ghost use Rattle.fixed.specs.Signed.{signed};

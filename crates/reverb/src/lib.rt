@@ -1,6 +1,6 @@
 // The reverb: its part of sound RAM, read and written. A turn of one side is defined here too.
 ghost use mathlib.Core.Path.{_≡_};
-ghost use Prim.Native.Nat.{_+_, _%_, _≤_, _<_};
+ghost use Prim.Native.Nat.{_%_, _≤_, _<_};
 ghost use lib.IntN.{pos, _-ℤ_};
 ghost use Rattle.soundram.specs.Address.{Lent};
 ghost use Rattle.soundram.specs.Program.{Does, memOf};
@@ -53,6 +53,7 @@ fn address(a: Area, bytes: u32, back: u32) -> ByteAddress
     ByteAddress(a.base + (span - 1 - remainder(back - k - 1, span)))
 }
 
+// How far the side's register lies from the left one of a pair.
 pub fn side(right: bool) -> usize
     ensures { λ r. ⌜ (r ≡ sideOf right) × (r ≤ 2) ⌝ }
 {
@@ -71,7 +72,7 @@ fn who(right: bool) -> Reader
     Reader::ReverbLeft
 }
 
-// The halfword there.
+// The halfword where the displacement leads, less `back` bytes.
 pub fn fetch(
     ram: &[u8],
     marks: &[u8],
@@ -97,6 +98,7 @@ pub fn fetch(
     Sample { value, watch }
 }
 
+// A halfword stored there, if the turn writes.
 pub fn store(
     ram: &mut [u8],
     marks: &mut [u8],

@@ -1,7 +1,6 @@
 // Sound RAM: its addresses, and what its halfwords, its marks and every access to them are.
 ghost use mathlib.Core.Path.{_≡_};
-ghost use mathlib.Core.Bool.{not};
-ghost use Prim.Native.Nat.{_+_, _*_, _/_, _≤_, _<_};
+ghost use Prim.Native.Nat.{_≤_, _<_};
 ghost use Rattle.soundram.specs.Address.{addressOf, unitOf, forwardOf};
 
 // An address in units of 8 bytes, as registers hold it.

@@ -1,6 +1,5 @@
 // Every call on a state: its definition, its refusals, and what holds of all of them. The calls themselves are the crates above.
 ghost use mathlib.Core.Path.{_≡_};
-ghost use mathlib.Core.Bool.{not};
 ghost use mathlib.Core.List.{[]};
 ghost use Rattle.spu.specs.Step.{firstOf, lentTests};
 use chip::State;

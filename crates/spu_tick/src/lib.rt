@@ -1,5 +1,4 @@
 // One tick, with its pair as samples or as floats.
-ghost use mathlib.Core.Bool.{false};
 ghost use Rattle.spu.specs.Step.{pair, floats, tick as ticking, tickFloats, Leaves};
 use chip::State;
 use stereo::Stereo;

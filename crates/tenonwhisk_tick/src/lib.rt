@@ -1,5 +1,4 @@
 // Calls for hosts on a state that is kept as bytes: one tick.
-ghost use mathlib.Core.Bool.{false};
 ghost use Rattle.spu.specs.Step.{pair, floats as floated, tick as ticking, tickFloats};
 ghost use Rattle.tenonwhisk.specs.Kept.{Keeps};
 

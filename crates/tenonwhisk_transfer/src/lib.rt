@@ -1,5 +1,4 @@
 // Calls for hosts on a state that is kept as bytes: transfers.
-ghost use mathlib.Core.Bool.{false};
 ghost use Rattle.spu.specs.Step.{moved, movedOut, transferIn, transferOut};
 ghost use Rattle.tenonwhisk.specs.Kept.{Keeps};
 

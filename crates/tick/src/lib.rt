@@ -1,7 +1,7 @@
 // A tick of the whole chip, and of its parts the mix, the capture, and what enters the reverb.
 ghost use mathlib.Core.Path.{_≡_};
 ghost use mathlib.Core.Bool.{cond};
-ghost use Prim.Native.Nat.{_+_, _<_};
+ghost use Prim.Native.Nat.{_<_};
 ghost use lib.IntN.{pos, _+ℤ_};
 ghost use Rattle.fixed.specs.Range.{In};
 ghost use Rattle.fixed.specs.Arithmetic.{saturated};
@@ -85,6 +85,7 @@ fn mix(regs: &[u16; 256], total: i32, held: i16, cd: i32, main: usize) -> i16
     fixed::saturate(fixed::product(sum as i32, volume))
 }
 
+// The pair, of the sums, the held outputs and the CD.
 pub fn mixed(regs: &[u16; 256], held: Held, sums: Sums, left: i16, right: i16) -> Pair
     ensures { λ r. ⌜ r ≡ pairOf (now (regs .entry)) held sums left right ⌝ }
 {
@@ -136,6 +137,7 @@ fn capture_both(
     capture_at(ram, marks, size, area + 0x400, place, y, first)
 }
 
+// The CD pair and the amplitudes of voices 1 and 3.
 pub fn capture(
     ram: &mut [u8],
     marks: &mut [u8],
@@ -155,6 +157,7 @@ pub fn capture(
 
 // ---- reverb
 
+// How the turn of a side is made.
 pub fn turning(regs: &[u16; 256], right: bool) -> Turning
     ensures { λ r. ⌜ r ≡ turningOf (now (regs .entry)) right ⌝ }
 {
