@@ -1,10 +1,11 @@
 -- The programs of a turn, from what the code's parts do. Assumes nothing.
 use mathlib.Core.Path.{_≡_, refl, _∙_, ap, ap₂, subst}
 use mathlib.Core.Bool.{Bool, true, false, _||_, _&&_, not}
-use mathlib.Core.List.{List}
-use Prim.Native.Nat.{ℕ, suc, _+_, _-_, _%_, _≤_, _<_}
+use mathlib.Core.List.{List, [], _∷_}
+use Prim.Native.Nat.{ℕ, zero, suc, _+_, _-_, _%_, _≤_, _<_}
 use native.Mathlib.Omega.{arith}
 use lib.IntN.{ℤ, pos, negsuc, _+ℤ_, _-ℤ_}
+use lib.ListN.{getD}
 use mir.Syntax.{w16, w32}
 use mir.Val.{SFits, toZ, ofZ}
 use mir.Facts.{toZ-ofZ}
@@ -18,7 +19,7 @@ use Rattle.soundram.specs.declared.Reader.{Reader}
 use Rattle.soundram.specs.Address.{halfwordOf}
 use Rattle.soundram.specs.declared.Watch.{Watch}
 use Rattle.soundram.specs.Memory.{marked, reading, latched}
-use Rattle.soundram.specs.Program.{Mem, memOf, afterRead, Result, run, Does, bind, get, put}
+use Rattle.soundram.specs.Program.{Prog, Mem, memOf, afterRead, Result, run, Does, bind, get, put, repeat}
 use Rattle.soundram.proofs.Programs.{does-done, does-give, does-bind, does-yes, does-no}
 use Rattle.reverb.specs.declared.Area.{Area}
 use Rattle.reverb.specs.declared.Turning.{Turning}
@@ -131,6 +132,13 @@ module _ (area : Area) (t : Turning) where
   unfolding store
   store-not d x m w = does-no _ w (does-done tt m)
 
+-- ---- an offset out of two
+
+pub both-below : (a b k : ℕ) → a < 512 → b < 512 → getD (a ∷ b ∷ []) k 0 < 512
+both-below a b zero p q = p
+both-below a b (suc zero) p q = q
+both-below a b (suc (suc k)) p q = omega arith
+
 -- ---- the stages: a, b, c and d are what was read
 
 module _ (regs : List ℕ) (area : Area) (t : Turning) where
@@ -158,17 +166,25 @@ module _ (regs : List ℕ) (area : Area) (t : Turning) where
   all-pass-does v m d out {o} em ed f ex eo ea ey s g er eb ez es =
       does-bind _ (rw (em, ed) at f) (does-bind _ (rw (em, ey, ex, eo, ea) at s) (does-bind _ (rw (em, ed) at g) (does-give o (rw (es, er, ez, ex, eo, ea, eb)))))
 
-  -- s and o are the sides, e what enters
-  pub reflections-does : (input : ℤ) {i e e′ e″ : ℤ} {s o : ℕ} {k l n : Mem} → s ≡ sideOf (t .right) → o ≡ sideOf (not (t .right)) → i ≡ input
-      → e ≡ productOf i (volumeAt regs (0x1FC + s)) → e′ ≡ e → Does (reflection regs area t e′ (0x1D4 + s) (0x1E0 + s)) k tt l
-      → e″ ≡ e → Does (reflection regs area t e″ (0x1E4 + s) (0x1F0 + o)) l tt n → Does (reflectionsOf regs area t input) k tt n
-  unfolding reflectionsOf
-  reflections-does input es eo ei ee e1 f e2 g = does-bind _ (rw (e1, ee, ei, es) at f) (rw (e2, ee, ei, es, eo) at g)
+  -- both reflections as one after the other of a list: m and d have their registers, e enters
+  abbrev pub reflectionAt : ℤ → List ℕ → List ℕ → ℕ → Unit {0} → Prog (Unit {0})
+  reflectionAt e m d k _ = reflection regs area t e (getD m k 0) (getD d k 0)
 
-  pub passes-does : (out : ℤ) {a b : ℤ} {s : ℕ} {k l m : Mem} → s ≡ sideOf (t .right) → Does (allPass regs area t 0x1D0 (0x1F4 + s) 0x1C0 out) k a l
-      → Does (allPass regs area t 0x1D2 (0x1F8 + s) 0x1C2 a) l b m → Does (allPasses regs area t out) k b m
-  unfolding allPasses
-  passes-does out es f g = does-bind _ (rw es at f) (rw es at g)
+  -- s and o are the sides
+  pub reflections-does : (input : ℤ) {i e : ℤ} {s o : ℕ} {k n : Mem} → s ≡ sideOf (t .right) → o ≡ sideOf (not (t .right)) → i ≡ input
+      → e ≡ productOf i (volumeAt regs (0x1FC + s)) → Does (repeat (reflectionAt e ((0x1D4 + s) ∷ (0x1E4 + s) ∷ []) ((0x1E0 + s) ∷ (0x1F0 + o) ∷ [])) 2 tt) k tt n
+      → Does (reflectionsOf regs area t input) k tt n
+  unfolding reflectionsOf repeat bind
+  reflections-does input es eo ei ee f = rw (ee, ei, es, eo) at f
+
+  -- both all-passes in the same way: v, m and d have their registers
+  abbrev pub passAt : List ℕ → List ℕ → List ℕ → ℕ → ℤ → Prog ℤ
+  passAt v m d k out = allPass regs area t (getD v k 0) (getD m k 0) (getD d k 0) out
+
+  pub passes-does : (out : ℤ) {a : ℤ} {s : ℕ} {k n : Mem} → s ≡ sideOf (t .right)
+      → Does (repeat (passAt (0x1D0 ∷ 0x1D2 ∷ []) ((0x1F4 + s) ∷ (0x1F8 + s) ∷ []) (0x1C0 ∷ 0x1C2 ∷ [])) 2 out) k a n → Does (allPasses regs area t out) k a n
+  unfolding allPasses repeat bind
+  passes-does out es f = rw es at f
 
   pub turn-does : (input : ℤ) {i a b c z z′ : ℤ} {k l m n : Mem} → i ≡ input → Does (reflectionsOf regs area t i) k tt l → Does (combs regs area t) l a m
       → Does (allPasses regs area t a) m b n → c ≡ b → z ≡ saturated (productOf c (volumeAt regs (0x184 + sideOf (t .right)))) → z′ ≡ z

@@ -180,7 +180,7 @@ fn leaving(regs: &[u16; 256], right: bool, out: i32) -> i16
     fixed::saturate(scaled(regs, out, 0x184 + reverb::side(right)))
 }
 
-// Both reflections.
+// Both reflections, in a loop: the compiler then has one call of `reflection`, and puts its code in place of it.
 fn reflections(
     regs: &[u16; 256],
     ram: &mut [u8],
@@ -196,11 +196,16 @@ fn reflections(
     let s = reverb::side(t.right);
     let o = reverb::side(!t.right);
     let x = scaled_sample(regs, input, 0x1FC + s);
-    let same = reflection(regs, ram, marks, area, t, x, 0x1D4 + s, 0x1E0 + s, w);
-    reflection(regs, ram, marks, area, t, x, 0x1E4 + s, 0x1F0 + o, same)
+    let m = [0x1D4 + s, 0x1E4 + s];
+    let d = [0x1E0 + s, 0x1F0 + o];
+    let mut watch = w;
+    for k in 0..2usize {
+        watch = reflection(regs, ram, marks, area, t, x, m[k], d[k], watch);
+    }
+    watch
 }
 
-// Both all-passes.
+// Both all-passes, in the same way.
 fn all_passes(
     regs: &[u16; 256],
     ram: &mut [u8],
@@ -213,8 +218,14 @@ fn all_passes(
     ensures { λ r. ⌜ Does (allPasses (now (regs .entry)) area t (out .value)) (memOf (now (ram .entry)) (now (marks .entry)) (out .watch)) (r .value) (memOf (now (ram .exit)) (now (marks .exit)) (r .watch)) × In 0x20000 0x20000 (r .value) ⌝ }
 {
     let s = reverb::side(t.right);
-    let first = all_pass(regs, ram, marks, area, t, 0x1D0, 0x1F4 + s, 0x1C0, out);
-    all_pass(regs, ram, marks, area, t, 0x1D2, 0x1F8 + s, 0x1C2, first)
+    let v = [0x1D0usize, 0x1D2];
+    let m = [0x1F4 + s, 0x1F8 + s];
+    let d = [0x1C0usize, 0x1C2];
+    let mut sum = out;
+    for k in 0..2usize {
+        sum = all_pass(regs, ram, marks, area, t, v[k], m[k], d[k], sum);
+    }
+    sum
 }
 
 // One turn, of the input.
