@@ -26,6 +26,14 @@ pub and-rest : (a b : Bool) → (a && b) ≡ true → b ≡ true
 and-rest true b e = e
 and-rest false b e = absurd (false≢true e)
 
+pub or-first : (a b : Bool) → (a || b) ≡ false → a ≡ false
+or-first false b e = refl
+or-first true b e = e
+
+pub or-rest : (a b : Bool) → (a || b) ≡ false → b ≡ false
+or-rest false b e = e
+or-rest true b e = absurd (false≢true (sym e))
+
 data All : List Bool → Type 0 where
   none : All []
   more : {a : Bool} {bs : List Bool} → a ≡ true → All bs → All (a ∷ bs)

@@ -16,13 +16,12 @@ use Rattle.soundram.proofs.Programs.{does-done, does-bind, run-kept, Always, en
 use Rattle.chip.specs.declared.State.{State}
 use Rattle.chip.specs.State.{watchOf, watchedOf}
 use Rattle.chip.specs.Range.{InRange}
-use Rattle.chip.proofs.Tests.{passes, sized}
+use Rattle.chip.proofs.Tests.{or-first, passes, sized}
 use Rattle.tick.specs.declared.Pair.{Pair}
 use Rattle.tick.specs.Tick.{tickOf}
 use Rattle.tick.proofs.Range.{tick-in}
 use Rattle.runs.specs.Run as runs
 use Rattle.runs.specs.Run.{Run, tickedBy}
-use Rattle.runs.proofs.Runs.{or-first}
 use Rattle.spu.specs.Step.{tick, test, firstOf, lentTests, numberOf, acceptedOf}
 use Rattle.host.specs.Run.{runTests, tickAt, ticksOf, startOf, numberedOf, ranOf}
 use Rattle.spu.proofs.Range.{passed-first, passed-rest}

@@ -33,14 +33,6 @@ use Rattle.tick.proofs.Parts.{tick-does}
 use Rattle.tick.proofs.Range.{tick-in}
 use Rattle.runs.specs.Run.{Run, tickedBy, ranOf, Toned}
 
-pub or-first : (a b : Bool) → (a || b) ≡ false → a ≡ false
-or-first false b e = refl
-or-first true b e = e
-
-pub or-rest : (a b : Bool) → (a || b) ≡ false → b ≡ false
-or-rest false b e = e
-or-rest true b e = absurd (subst (λ (c : Bool). cond c (Unit {0}) ⊥) e tt)
-
 -- ---- of a voice's settings, what a tick looks at: t has the same pitch, modulation and noise as s
 
 pub tone-as : (regs : List ℕ) (n : ℕ) {pmon non p : ℕ} {m o : Bool} → n < 24 → Modulated regs pmon → Flags regs 0x194 non → p ≡ ofVoice regs n 4 → m ≡ bit n pmon → o ≡ bit n non

@@ -15,8 +15,8 @@ use Rattle.soundram.specs.Program.{memOf, Does}
 use Rattle.soundram.proofs.Programs.{does-done, does-bind}
 use Rattle.chip.specs.declared.State.{State}
 use Rattle.chip.specs.State.{withTransfer, watchOf, watchedOf}
+use Rattle.chip.proofs.Tests.{or-rest}
 use Rattle.transfer.specs.Transfer.{inwardOf, outwardOf}
-use Rattle.runs.proofs.Runs.{or-rest}
 use Rattle.spu_transfer.specs.declared.Transferred.{Transferred}
 use Rattle.spu.specs.Step.{transferIn, transferOut, moved, movedOut, Test, test, firstOf, notInward, notOutward, lentTests, moveTests, numberOf, refusedOf, acceptedOf, Leaves, badCount}
 use Rattle.spu.proofs.Range.{passed-first, passed-rest}

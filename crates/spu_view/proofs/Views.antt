@@ -11,8 +11,7 @@ use lib.ListN.{length, take, drop, length-take, length-drop}
 use Rattle.soundram.specs.Calls.{still, outcome}
 use Rattle.chip.specs.declared.State.{State}
 use Rattle.chip.specs.State.{stateOk}
-use Rattle.chip.proofs.Tests.{ok-sized}
-use Rattle.runs.proofs.Runs.{or-rest}
+use Rattle.chip.proofs.Tests.{or-rest, ok-sized}
 use Rattle.spu.specs.Step.{view, viewed, numberOf, refusedOf, acceptedOf, stepOf, chip, outcomeOf, viewOf, badBlock}
 use Rattle.spu.proofs.Range.{passed-first, passed-rest}
 use Rattle.spu.proofs.Numbers.{here, later, none}

@@ -2,14 +2,14 @@
 use mathlib.Core.Path.{_≡_, sym, ap, _∙_}
 use mathlib.Core.Bool.{Bool, true, false, cond, _&&_, not}
 use mathlib.Core.List.{List}
-use Prim.Native.Nat.{ℕ, _+_, _*_, _/_, _%_, _^_}
+use Prim.Native.Nat.{ℕ, _+_, _*_, _%_, _^_}
 use native.Mathlib.Omega.{arith}
 use borrow.Author.Tests.{eq-eqb, ne-eqb, not-true, not-false}
 use lib.Dec.{eqb}
 use lib.ListN.{getD, set}
 use lib.IntN.{ℤ, pos, _+ℤ_}
 use Rattle.fixed.specs.Bits.{bit}
-use Rattle.fixed.specs.Signed.{signed, bitsOf}
+use Rattle.fixed.specs.Signed.{signed}
 use Rattle.fixed.specs.Arithmetic.{saturated, productOf, volumeOf}
 use Rattle.fixed.proofs.Parts.{add-is, eq-parts}
 use Rattle.noise.specs.declared.Noise.{Noise}
@@ -17,13 +17,13 @@ use Rattle.noise.specs.Noise.{tickedOf}
 use Rattle.soundram.specs.declared.ByteAddress.{ByteAddress}
 use Rattle.soundram.specs.Address.{addressOf, Sized}
 use Rattle.soundram.specs.declared.Watch.{Watch}
-use Rattle.soundram.specs.Program.{Prog, done, bind, Mem, run, Does, put, repeat}
+use Rattle.soundram.specs.Program.{Prog, done, bind, Mem, run, Does, repeat}
 use Rattle.soundram.proofs.Programs.{run-bind, does-give, does-bind}
 use Rattle.registers.specs.Map.{registerAt}
 use Rattle.voice.specs.declared.Voice.{Voice}
-use Rattle.voices.specs.declared.Captured.{Captured}
 use Rattle.voices.specs.declared.Sums.{Sums}
 use Rattle.voices.specs.Voices.{noSums, mixedOf, voiceAt}
+use Rattle.capture.specs.Capture.{captureOf, captureNext}
 use Rattle.reverb.specs.declared.Turning.{Turning}
 use Rattle.reverb.specs.Reverb.{AreaIn, sideOf, turnOf}
 use Rattle.chip.specs.declared.Held.{Held}
@@ -33,7 +33,7 @@ use Rattle.chip.specs.Range.{PlaceIn}
 use Rattle.tick.specs.declared.Pair.{Pair}
 use Rattle.tick.specs.declared.Rest.{Rest}
 use Rattle.tick.specs.declared.Going.{Going}
-use Rattle.tick.specs.Tick.{cdOf, mixOf, pairOf, captureAt, captureBoth, captureOf, captureNext, turningOf, inputOf, enteringOf, placeAfter, heldOf, reverbAfter, reverbOf, Closing, closeOf, tickOf}
+use Rattle.tick.specs.Tick.{cdOf, mixOf, pairOf, turningOf, inputOf, enteringOf, placeAfter, heldOf, reverbAfter, reverbOf, Closing, closeOf, tickOf}
 use Rattle.tick.specs.Run.{joinOf, Finishes}
 
 -- ---- mix: b is the bit of SPUCNT
@@ -66,21 +66,6 @@ pub pair-as : (regs : List ℕ) (h : Held) (s : Sums) (left right : ℤ) {l r : 
     → r ≡ mixOf regs (s .dry .right) (h .right) (cdOf regs 0x1B2 right) 0x182 → record { left = l; right = r } ≡ pairOf regs h s left right
 unfolding pairOf
 pair-as regs h s left right el er = rw (el, er)
-
--- ---- capture
-
-pub capture-as : (area place : ℕ) (x : ℤ) {x′ : ℤ} {v : ℕ} {m n : Mem} → x′ ≡ x → v ≡ bitsOf 16 x′ → Does (put ((area + place) / 2) v) m tt n → Does (captureAt area place x) m tt n
-capture-as area place x ex ev d = rw (ev, ex) at d
-
-pub both-does : (area place : ℕ) (x y : ℤ) {x′ y′ : ℤ} {k m n : Mem} → x′ ≡ x → y′ ≡ y → Does (captureAt area place x′) k tt m → Does (captureAt (area + 0x400) place y′) m tt n
-    → Does (captureBoth area place x y) k tt n
-unfolding captureBoth
-both-does area place x y ex ey d e = does-bind _ (rw ex at d) (rw ey at e)
-
-pub capture-does : (place : ℕ) (left right : ℤ) (c : Captured) {l r a b : ℤ} {k m n : Mem} → l ≡ left → r ≡ right → a ≡ c .first → b ≡ c .third
-    → Does (captureBoth 0x000 place l r) k tt m → Does (captureBoth 0x800 place a b) m tt n → Does (captureOf place left right c) k tt n
-unfolding captureOf
-capture-does place left right c el er ea eb d e = does-bind _ (rw (el, er) at d) (rw (ea, eb) at e)
 
 -- ---- reverb
 

@@ -8,24 +8,20 @@ use lib.IntN.{ℤ, pos}
 use Rattle.fixed.specs.Bits.{bit}
 use Rattle.soundram.specs.TwoRuns.{Safe}
 use Rattle.soundram.proofs.Programs.{Always, ends, always-bind, Reads, reads-done, reads-bind}
-use Rattle.soundram.proofs.TwoRuns.{safe-done, safe-bind, safe-put}
+use Rattle.soundram.proofs.TwoRuns.{safe-done, safe-bind}
 use Rattle.registers.specs.Map.{registerAt}
 use Rattle.voices.specs.declared.Sums.{Sums}
-use Rattle.voices.specs.declared.Captured.{Captured}
 use Rattle.voices.proofs.Turns.{safe-voices}
+use Rattle.capture.proofs.Captures.{safe-capture}
 use Rattle.reverb.specs.declared.Area.{Area}
 use Rattle.reverb.specs.declared.Turning.{Turning}
 use Rattle.reverb.specs.Reverb.{sideOf, own, turnOf}
 use Rattle.reverb.proofs.Safe.{counted-turn, blind-turn, silent-turn, reads-turn}
 use Rattle.chip.specs.declared.Reverb.{Reverb}
 use Rattle.chip.specs.declared.State.{State}
-use Rattle.tick.specs.Tick.{captureBoth, captureOf, turningOf, heldOf, reverbAfter, reverbOf, tickOf}
+use Rattle.tick.specs.Tick.{turningOf, heldOf, reverbAfter, reverbOf, tickOf}
 
 -- ---- a tick
-
-safe-capture : (place : ℕ) (left right : ℤ) (c : Captured) → Safe (captureOf place left right c)
-unfolding captureOf captureBoth
-safe-capture place left right c = safe-bind (safe-bind (safe-put _ _) (λ _. safe-put _ _)) (λ _. safe-bind (safe-put _ _) (λ _. safe-put _ _))
 
 -- a turn whose reads count unless nothing is written and the output volume is 0
 turn-safe : (regs : List ℕ) (area : Area) (t : Turning) (input : ℤ) (on none : Bool) → t .counted ≡ not (not on && none) → t .writes ≡ on

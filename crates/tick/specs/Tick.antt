@@ -1,20 +1,20 @@
 -- One tick, in document 01's order: control, noise, voices, mix, capture, reverb, tick number. Assumes nothing.
 use mathlib.Core.Bool.{Bool, true, false, cond, _&&_, not}
 use mathlib.Core.List.{List}
-use Prim.Native.Nat.{ℕ, _+_, _/_, _%_, _^_}
+use Prim.Native.Nat.{ℕ, _+_, _%_, _^_}
 use lib.Dec.{eqb}
 use lib.IntN.{ℤ, pos, _+ℤ_}
 use Rattle.fixed.specs.Bits.{bit}
-use Rattle.fixed.specs.Signed.{signed, bitsOf}
+use Rattle.fixed.specs.Signed.{signed}
 use Rattle.fixed.specs.Arithmetic.{saturated, productOf, volumeOf}
 use Rattle.noise.specs.declared.Noise.{Noise}
 use Rattle.noise.specs.Noise.{tickedOf}
-use Rattle.soundram.specs.Program.{Prog, done, bind, put, repeat}
+use Rattle.soundram.specs.Program.{Prog, done, bind, repeat}
 use Rattle.soundram.specs.Calls.{Reply}
 use Rattle.registers.specs.Map.{registerAt}
 use Rattle.voices.specs.declared.Sums.{Sums}
-use Rattle.voices.specs.declared.Captured.{Captured}
 use Rattle.voices.specs.Voices.{noSums, voiceAt}
+use Rattle.capture.specs.Capture.{captureOf, captureNext}
 use Rattle.reverb.specs.declared.Area.{Area}
 use Rattle.reverb.specs.declared.Turning.{Turning}
 use Rattle.reverb.specs.Reverb.{sideOf, turnOf}
@@ -44,21 +44,6 @@ pairOf regs held sums left right =
       left = mixOf regs (sums .dry .left) (held .left) (cdOf regs 0x1B0 left) 0x180;
       right = mixOf regs (sums .dry .right) (held .right) (cdOf regs 0x1B2 right) 0x182;
     }
-
--- ---- capture: "Raw CD left, right, amplitudes of voices 1 and 3 go to 000h, 400h, 800h, C00h plus the place; the place moves 2, from 3FEh to 0."
-
-abbrev pub captureAt : ℕ → ℕ → ℤ → Prog (Unit {0})
-captureAt area place x = put ((area + place) / 2) (bitsOf 16 x)
-
--- two areas, 400h apart
-unfoldable pub captureBoth : ℕ → ℕ → ℤ → ℤ → Prog (Unit {0})
-captureBoth area place x y = bind (captureAt area place x) (λ _. captureAt (area + 0x400) place y)
-
-unfoldable pub captureOf : ℕ → ℤ → ℤ → Captured → Prog (Unit {0})
-captureOf place left right c = bind (captureBoth 0x000 place left right) (λ _. captureBoth 0x800 place (c .first) (c .third))
-
-abbrev pub captureNext : ℕ → ℕ
-captureNext place = (place + 2) % 0x400
 
 -- ---- reverb
 

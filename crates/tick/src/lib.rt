@@ -1,4 +1,4 @@
-// A tick of the whole chip, and of its parts the mix, the capture, and what enters the reverb.
+// A tick of the whole chip, and of its parts the mix and what enters the reverb.
 ghost use mathlib.Core.Path.{_≡_};
 ghost use mathlib.Core.Bool.{cond};
 ghost use Prim.Native.Nat.{_<_};
@@ -7,17 +7,13 @@ ghost use Rattle.fixed.specs.Range.{In};
 ghost use Rattle.fixed.specs.Arithmetic.{saturated};
 ghost use Rattle.fixed.specs.Bits.{bit};
 ghost use Rattle.registers.specs.Map.{registerAt};
-ghost use Rattle.soundram.specs.Address.{Lent};
-ghost use Rattle.soundram.specs.Program.{Does, memOf};
 ghost use Rattle.voices.specs.Voices.{SumsIn};
-ghost use Rattle.tick.specs.Tick.{cdOf, mixOf, pairOf, captureOf, captureBoth, captureAt, turningOf, inputOf, enteringOf};
+ghost use Rattle.tick.specs.Tick.{cdOf, mixOf, pairOf, turningOf, inputOf, enteringOf};
 use chip::Held;
 use chip::Reverb;
 use noise::Noise;
 use reverb::Turning;
-use soundram::ByteAddress;
 use soundram::Watch;
-use voices::Captured;
 use voices::Sums;
 
 // The pair that a tick gives.
@@ -94,65 +90,6 @@ pub fn mixed(regs: &[u16; 256], held: Held, sums: Sums, left: i16, right: i16) -
         left: mix(regs, dry.left, held.left, cd(regs, 0x1B0, left), 0x180),
         right: mix(regs, dry.right, held.right, cd(regs, 0x1B2, right), 0x182),
     }
-}
-
-// ---- capture
-
-fn capture_at(
-    ram: &mut [u8],
-    marks: &mut [u8],
-    size: u32,
-    area: u32,
-    place: u16,
-    x: i16,
-    w: Watch,
-) -> Watch
-    requires { ⌜ Lent size (now ram) (now marks) × (area < 0x1000) × (place < 0x400) ⌝ }
-    ensures { λ r. ⌜ Does (captureAt area place x) (memOf (now (ram .entry)) (now (marks .entry)) w) tt (memOf (now (ram .exit)) (now (marks .exit)) r) ⌝ }
-{
-    access::write(
-        ram,
-        marks,
-        ByteAddress(area + place as u32),
-        fixed::to_bits(x),
-        w,
-    )
-}
-
-// In two areas, 400h apart.
-fn capture_both(
-    ram: &mut [u8],
-    marks: &mut [u8],
-    size: u32,
-    area: u32,
-    place: u16,
-    x: i16,
-    y: i16,
-    w: Watch,
-) -> Watch
-    requires { ⌜ Lent size (now ram) (now marks) × (area < 0xC00) × (place < 0x400) ⌝ }
-    ensures { λ r. ⌜ Does (captureBoth area place x y) (memOf (now (ram .entry)) (now (marks .entry)) w) tt (memOf (now (ram .exit)) (now (marks .exit)) r) ⌝ }
-{
-    let first = capture_at(ram, marks, size, area, place, x, w);
-    capture_at(ram, marks, size, area + 0x400, place, y, first)
-}
-
-// The CD pair and the amplitudes of voices 1 and 3.
-pub fn capture(
-    ram: &mut [u8],
-    marks: &mut [u8],
-    size: u32,
-    place: u16,
-    left: i16,
-    right: i16,
-    c: Captured,
-    w: Watch,
-) -> Watch
-    requires { ⌜ Lent size (now ram) (now marks) × (place < 0x400) ⌝ }
-    ensures { λ r. ⌜ Does (captureOf place left right c) (memOf (now (ram .entry)) (now (marks .entry)) w) tt (memOf (now (ram .exit)) (now (marks .exit)) r) ⌝ }
-{
-    let cd = capture_both(ram, marks, size, 0x000, place, left, right, w);
-    capture_both(ram, marks, size, 0x800, place, c.first, c.third, cd)
 }
 
 // ---- reverb

@@ -122,7 +122,7 @@ fn close(
     ensures { λ c. ⌜ Does (closeOf (now (regs .entry)) size r n (mixedOf (now (regs .entry)) amplitudes 24) left right) (memOf (now (ram .entry)) (now (marks .entry)) w) (record { pair = c .pair; rest = c .rest }) (memOf (now (ram .exit)) (now (marks .exit)) (c .watch)) ⌝ }
 {
     let sums = voices::mix(regs, volumes, amplitudes);
-    let captured = tick::capture(ram, marks, size, r.capture, left, right, sums.captured, w);
+    let captured = capture::capture(ram, marks, size, r.capture, left, right, sums.captured, w);
     let t = turn(
         regs,
         size,

@@ -11,7 +11,8 @@ use Rattle.envelope.proofs.Ticks.{waits-some, waits-ticked}
 use Rattle.voice.proofs.Ticks.{tick-stays}
 use Rattle.voices.specs.Voices.{pastEnd}
 use Rattle.voices.proofs.Turns.{play-more, play-idle}
-use Rattle.runs.proofs.Runs.{Running, run-none, run-voice, run-tick, run-all, or-first, or-rest, tone-counter, tone-target, tone-amplitude, stepped-as}
+use Rattle.chip.proofs.Tests.{or-first, or-rest}
+use Rattle.runs.proofs.Runs.{Running, run-none, run-voice, run-tick, run-all, tone-counter, tone-target, tone-amplitude, stepped-as}
 use Rattle.runs.proofs.run.Statement.{statement}
 use Rattle.runs.proofs.run.Tie as tie
 

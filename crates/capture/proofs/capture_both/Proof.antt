@@ -2,9 +2,9 @@ use native.Mathlib.Omega.{arith}
 use borrow.Author.Needs.{needs}
 use mir.Facts.{toZ-ofZ}
 use Rattle.soundram.proofs.Programs.{lent-after}
-use Rattle.tick.proofs.Parts.{both-does}
-use Rattle.tick.proofs.capture_both.Statement.{statement}
-use Rattle.tick.proofs.capture_both.Tie as tie
+use Rattle.capture.proofs.Captures.{both-does}
+use Rattle.capture.proofs.capture_both.Statement.{statement}
+use Rattle.capture.proofs.capture_both.Tie as tie
 
 capture-at-requires : tie.Need-capture-at-requires
 capture-at-requires c κs = search needs

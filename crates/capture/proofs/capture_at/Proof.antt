@@ -1,8 +1,8 @@
 use borrow.Author.Needs.{needs}
 use mir.Facts.{toZ-ofZ}
-use Rattle.tick.proofs.Parts.{capture-as}
-use Rattle.tick.proofs.capture_at.Statement.{statement}
-use Rattle.tick.proofs.capture_at.Tie as tie
+use Rattle.capture.proofs.Captures.{capture-as}
+use Rattle.capture.proofs.capture_at.Statement.{statement}
+use Rattle.capture.proofs.capture_at.Tie as tie
 
 add-t13 : tie.Need-add-t13
 add-t13 c = search needs

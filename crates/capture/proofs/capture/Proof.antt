@@ -5,9 +5,9 @@ use mir.Val.{toZ, ofZ}
 use mir.Syntax.{w16}
 use mir.Facts.{toZ-ofZ}
 use Rattle.soundram.proofs.Programs.{lent-after}
-use Rattle.tick.proofs.Parts.{capture-does}
-use Rattle.tick.proofs.capture.Statement.{statement}
-use Rattle.tick.proofs.capture.Tie as tie
+use Rattle.capture.proofs.Captures.{capture-does}
+use Rattle.capture.proofs.capture.Statement.{statement}
+use Rattle.capture.proofs.capture.Tie as tie
 
 capture-both-requires : tie.Need-capture-both-requires
 capture-both-requires c κs = search needs
