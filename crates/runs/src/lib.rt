@@ -111,7 +111,7 @@ pub fn run(s: State, ram: &mut [u8], marks: &mut [u8], cd: &[i16], out: &mut [i1
         }
         let tone = tone(&s.regs, pmon, non, n);
         let x = voices[n];
-        let m = voice_tick::glide(&table, first, tone, below, g.noise.level);
+        let m = voice_sound::glide(&table, first, tone, below, g.noise.level);
         if !x.playing.loaded | (27 < m.target) {
             let v = voices[n];
             let set = voices::settings_by(&s.regs, pmon, non, n);

@@ -18,7 +18,7 @@ pub fn lent_number(s: State, ram: usize, marks: usize) -> u8
     if (ram != size) | (marks != size / 16) {
         return 1;
     }
-    if !chip::ok(s) {
+    if !chip_range::ok(s) {
         return 2;
     }
     0

@@ -13,7 +13,7 @@ pub struct Reading {
 pub fn make(size: u32) -> Changed
     ensures { λ r. ⌜ r ≡ makeOf size ⌝ }
 {
-    if chip::size_ok(size) {
+    if chip_range::size_ok(size) {
         let state = State::fresh(size);
         return Changed { number: 0, state };
     }
@@ -25,7 +25,7 @@ pub fn make(size: u32) -> Changed
 pub fn reset(s: State) -> Changed
     ensures { λ r. ⌜ Gives resetting s (made (r .number)) (r .state) ⌝ }
 {
-    if chip::ok(s) {
+    if chip_range::ok(s) {
         let state = State::fresh(s.choices.size);
         return Changed { number: 0, state };
     }
@@ -36,7 +36,7 @@ pub fn reset(s: State) -> Changed
 fn write_number(s: State, offset: u32, value: u16) -> u8
     ensures { λ r. ⌜ r ≡ numberOf (writing offset value) s 0 0 ⌝ }
 {
-    if !chip::ok(s) {
+    if !chip_range::ok(s) {
         return 2;
     }
     if !registers::listed(offset) {
@@ -67,7 +67,7 @@ pub fn write(s: State, offset: u32, value: u16) -> Changed
 fn read_number(s: State, offset: u32) -> u8
     ensures { λ r. ⌜ r ≡ numberOf (reading offset) s 0 0 ⌝ }
 {
-    if !chip::ok(s) {
+    if !chip_range::ok(s) {
         return 2;
     }
     if !registers::listed(offset) {

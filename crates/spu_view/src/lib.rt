@@ -12,7 +12,7 @@ pub fn view_number(s: State, ram: &[u8], address: u32) -> u8
     if ram.len() != size as usize {
         return 1;
     }
-    if !chip::ok(s) {
+    if !chip_range::ok(s) {
         return 2;
     }
     if (address % 8 != 0) | (size - 16 < address) {

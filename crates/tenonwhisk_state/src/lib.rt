@@ -48,7 +48,7 @@ pub extern "C" fn tenonwhisk_status(state: &[u8]) -> Status
     ensures { λ r. ⌜ r ≡ statusOf (now (state .entry)) ⌝ }
 {
     let h = image::load(state);
-    let ok = h.ok & chip::ok(h.state);
+    let ok = h.ok & chip_range::ok(h.state);
     if !ok {
         return Status {
             number: 2,

@@ -5,7 +5,7 @@ ghost use Rattle.gauss.specs.Gauss.{table as factors};
 ghost use Rattle.soundram.specs.Address.{Lent};
 ghost use Rattle.soundram.specs.Program.{Does, memOf};
 ghost use Rattle.voice.specs.Range.{InRange};
-ghost use Rattle.voice.specs.Voice.{readyOf, soundOf, amplitudeOf, movementOf, steppedOf, targetOf, arriveOf, movesOf, tickOf};
+ghost use Rattle.voice.specs.Voice.{readyOf, steppedOf, targetOf, arriveOf, movesOf, tickOf};
 use soundram::Reader;
 use soundram::Watch;
 use voice::Position;
@@ -26,14 +26,6 @@ struct Stepped {
     target: u32,
 }
 
-// What a tick of a voice with its block loaded gives, beside its envelope's step: the place between samples, the sample that it
-// leads to, which may lie past the block's last, and the amplitude.
-pub struct Glided {
-    pub counter: u16,
-    pub target: u32,
-    pub amplitude: i16,
-}
-
 // The voice with a block loaded.
 fn ready(v: Voice, who: Reader, size: u32, ram: &[u8], marks: &[u8], w: Watch) -> Loaded
     requires { ⌜ Lent size (now ram) (now marks) × (v .source .address .0 < size) ⌝ }
@@ -43,35 +35,6 @@ fn ready(v: Voice, who: Reader, size: u32, ram: &[u8], marks: &[u8], w: Watch) -
         return Loaded { voice: v, watch: w };
     }
     voice_block::fetch(v, who, size, ram, marks, w)
-}
-
-// What the voice gives before its envelope: its samples, interpolated, or the noise.
-fn sound(table: &[i16; 512], s: Settings, level: u16, v: Voice) -> i16
-    requires { ⌜ (now table ≡ factors) × (v .position .index ≤ 27) ⌝ }
-    ensures { λ r. ⌜ r ≡ soundOf s level v ⌝ }
-{
-    if s.noise {
-        return fixed::to_signed(level);
-    }
-    let i = gauss::index(v.position.counter);
-    let samples = v.playing.samples;
-    let k = v.position.index as usize;
-    gauss::interpolate(
-        table,
-        i,
-        samples[k],
-        samples[k + 1],
-        samples[k + 2],
-        samples[k + 3],
-    )
-}
-
-fn amplitude(table: &[i16; 512], s: Settings, level: u16, v: Voice) -> i16
-    requires { ⌜ (now table ≡ factors) × (v .position .index ≤ 27) × (v .envelope .level ≤ 0x7FFF) ⌝ }
-    ensures { λ r. ⌜ r ≡ amplitudeOf s level v ⌝ }
-{
-    let x = sound(table, s, level, v) as i32;
-    fixed::product(x, v.envelope.level as i16) as i16
 }
 
 // The envelope's step and the pitch step, with the sample that they lead to.
@@ -92,20 +55,6 @@ fn step(v: Voice, s: Settings, below: i16) -> Stepped
     Stepped {
         voice,
         target: index as u32 + m.moves,
-    }
-}
-
-// A tick of a voice with its block loaded, but for its envelope's step and the next block.
-pub fn glide(table: &[i16; 512], v: Voice, s: Settings, below: i16, level: u16) -> Glided
-    requires { ⌜ (now table ≡ factors) × (v .position .counter < 0x1000) × (v .position .index ≤ 27) × (v .envelope .level ≤ 0x7FFF) ⌝ }
-    ensures { λ r. ⌜ (r .counter ≡ movementOf s below v .counter) × (r .target ≡ targetOf s below v) × (r .target < 32) × (r .amplitude ≡ amplitudeOf s level v) ⌝ }
-{
-    let x = amplitude(table, s, level, v);
-    let p = pitch::advance(v.position.counter, pitch::step(s.pitch, s.modulated, below));
-    Glided {
-        counter: p.counter,
-        target: v.position.index as u32 + p.moves,
-        amplitude: x,
     }
 }
 
@@ -176,7 +125,7 @@ pub fn tick(
     }
     let first = ready(v, Reader::Voice(n), size, ram, marks, w);
     let x = first.voice;
-    let a = amplitude(table, s, level, x);
+    let a = voice_sound::amplitude(table, s, level, x);
     let last = moves(x, Reader::Voice(n), size, s, below, ram, marks, first.watch);
     let voice = last.voice;
     let watch = last.watch;

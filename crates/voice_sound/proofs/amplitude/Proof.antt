@@ -2,8 +2,8 @@ use borrow.Author.Needs.{needs}
 use mir.Syntax.{w16, w32}
 use Rattle.fixed.proofs.Number.{Num, ok, said, nat, prod, hold, need, is, range, wide}
 use Rattle.voice.specs.Voice.{amplitudeOf}
-use Rattle.voice_tick.proofs.amplitude.Statement.{statement}
-use Rattle.voice_tick.proofs.amplitude.Tie as tie
+use Rattle.voice_sound.proofs.amplitude.Statement.{statement}
+use Rattle.voice_sound.proofs.amplitude.Tie as tie
 
 abbrev x : tie.After-sound → Num
 x c = said (ok w16 (c .sound .result) (c .sound .ok)) (c .sound .ensures)

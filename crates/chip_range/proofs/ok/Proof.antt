@@ -1,8 +1,8 @@
 use native.Mathlib.Omega.{arith}
 use borrow.Author.Needs.{needs}
 use Rattle.chip.proofs.Parts.{tested-size, tested-sized, address-at, state-tested}
-use Rattle.chip.proofs.ok.Statement.{statement}
-use Rattle.chip.proofs.ok.Tie as tie
+use Rattle.chip_range.proofs.ok.Statement.{statement}
+use Rattle.chip_range.proofs.ok.Tie as tie
 
 size-ok-requires : tie.Need-size-ok-requires
 size-ok-requires c κs = search needs

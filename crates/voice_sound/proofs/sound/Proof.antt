@@ -1,9 +1,9 @@
 use borrow.Author.Needs.{needs}
 use mir.Syntax.{w16}
 use Rattle.fixed.proofs.Number.{passed, ok, is}
-use Rattle.voice_tick.proofs.Sounds.{sound-noise, sound-samples}
-use Rattle.voice_tick.proofs.sound.Statement.{statement}
-use Rattle.voice_tick.proofs.sound.Tie as tie
+use Rattle.voice_sound.proofs.Sounds.{sound-noise, sound-samples}
+use Rattle.voice_sound.proofs.sound.Statement.{statement}
+use Rattle.voice_sound.proofs.sound.Tie as tie
 
 to-signed-requires : tie.Need-to-signed-requires
 to-signed-requires c κs = search needs

@@ -1,7 +1,7 @@
 use borrow.Author.Needs.{needs}
 use Rattle.chip.proofs.Parts.{voice-tested}
-use Rattle.chip.proofs.voice_ok.Statement.{statement}
-use Rattle.chip.proofs.voice_ok.Tie as tie
+use Rattle.chip_range.proofs.voice_ok.Statement.{statement}
+use Rattle.chip_range.proofs.voice_ok.Tie as tie
 
 is-active-requires : tie.Need-is-active-requires
 is-active-requires c κs = search needs

@@ -1,7 +1,7 @@
 use mathlib.Core.Path.{refl}
 use Rattle.chip.specs.State.{sizeOk}
-use Rattle.chip.proofs.size_ok.Statement.{statement}
-use Rattle.chip.proofs.size_ok.Tie as tie
+use Rattle.chip_range.proofs.size_ok.Statement.{statement}
+use Rattle.chip_range.proofs.size_ok.Tie as tie
 
 returns : tie.Need-returns
 unfolding sizeOk

@@ -2,10 +2,10 @@ use mathlib.Core.Path.{_≡_}
 use Prim.Native.Nat.{_-_, _≤_}
 use native.Mathlib.Omega.{arith}
 use borrow.Author.Needs.{needs}
 use Rattle.chip.specs.State.{everyOk}
 use Rattle.chip.proofs.Parts.{every-none, every-more, to-end}
-use Rattle.chip.proofs.every_ok.Statement.{statement}
-use Rattle.chip.proofs.every_ok.Tie as tie
+use Rattle.chip_range.proofs.every_ok.Statement.{statement}
+use Rattle.chip_range.proofs.every_ok.Tie as tie
 
 abbrev Inv-loop : tie.InvT-loop
 Inv-loop size voices ok₀ n₀ ok n = (n ≤ 24) × (ok ≡ everyOk size voices n)

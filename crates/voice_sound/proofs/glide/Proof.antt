@@ -6,8 +6,8 @@ use mir.Facts.{toZ-ofZ}
 use Rattle.fixed.proofs.Number.{passed}
 use Rattle.voice.proofs.Range.{moves-small}
 use Rattle.voice.proofs.Ticks.{stepped-counter, stepped-target}
-use Rattle.voice_tick.proofs.glide.Statement.{statement}
-use Rattle.voice_tick.proofs.glide.Tie as tie
+use Rattle.voice_sound.proofs.glide.Statement.{statement}
+use Rattle.voice_sound.proofs.glide.Tie as tie
 
 small : (c : tie.After-struct-known2) → c .before .before .before .before .before .args .v .position .index + c .before .before .advance .result .moves < 32
 small c = search moves-small
