@@ -1,8 +1,9 @@
 // The capture: what is played goes to the first 1000h bytes of sound RAM too.
+ghost use mathlib.Core.Path.{_≡_};
 ghost use Prim.Native.Nat.{_<_};
 ghost use Rattle.soundram.specs.Address.{Lent};
 ghost use Rattle.soundram.specs.Program.{Does, memOf};
-ghost use Rattle.capture.specs.Capture.{captureAt, captureBoth, captureOf};
+ghost use Rattle.capture.specs.Capture.{captureAt, captureBoth, captureOf, captureNext};
 use soundram::ByteAddress;
 use soundram::Watch;
 use voices::Captured;
@@ -62,4 +63,12 @@ pub fn capture(
 {
     let cd = capture_both(ram, marks, size, 0x000, place, left, right, w);
     capture_both(ram, marks, size, 0x800, place, c.first, c.third, cd)
+}
+
+// The place of the next.
+pub fn next(place: u16) -> u16
+    requires { ⌜ place < 0x400 ⌝ }
+    ensures { λ r. ⌜ r ≡ captureNext place ⌝ }
+{
+    (place + 2) % 0x400
 }

@@ -136,15 +136,15 @@ turn-does regs size r s left right {n} eu eb et ex el er ex′ d eq eo = does-bi
 -- ---- the end of a tick
 
 -- s are the sums, c is SPUCNT, t the tick number as the calls have them
-pub close-does : (regs : List ℕ) (size : ℕ) (r : Rest) (z : Noise) (sums : Sums) (left right : ℤ) {s : Sums} {c t : ℕ} {v : Reverb} {p : Pair} {l₁ r₁ l₂ r₂ l₃ r₃ : ℤ} {k m n : Mem} → s ≡ sums
+pub close-does : (regs : List ℕ) (size : ℕ) (r : Rest) (z : Noise) (sums : Sums) (left right : ℤ) {s : Sums} {c q t : ℕ} {v : Reverb} {p : Pair} {l₁ r₁ l₂ r₂ l₃ r₃ : ℤ} {k m n : Mem} → s ≡ sums
     → l₁ ≡ left → r₁ ≡ right → Does (captureOf (r .capture) l₁ r₁ (s .captured)) k tt m
     → l₂ ≡ left → r₂ ≡ right → Does (reverbOf regs size (r .reverb) s l₂ r₂) m v n
-    → l₃ ≡ left → r₃ ≡ right → p ≡ pairOf regs (r .reverb .held) s l₃ r₃ → c ≡ registerAt regs 0x1AA → t ≡ (r .tick + 1) % 2 ^ 32
+    → l₃ ≡ left → r₃ ≡ right → p ≡ pairOf regs (r .reverb .held) s l₃ r₃ → c ≡ registerAt regs 0x1AA → q ≡ captureNext (r .capture) → t ≡ (r .tick + 1) % 2 ^ 32
     → Does (closeOf regs size r z sums left right) k
-    (record { pair = p; rest = record { noise = z; applied = c % 0x40; capture = captureNext (r .capture); reverb = v; tick = t } }) n
+    (record { pair = p; rest = record { noise = z; applied = c % 0x40; capture = q; reverb = v; tick = t } }) n
 unfolding closeOf
-close-does regs size r z sums left right {n} es el er dc el′ er′ dr el″ er″ ep ec et =
-    does-bind _ (rw (el, er, es) at dc) (does-bind _ (rw (el′, er′, es) at dr) (does-give n (rw (ep, el″, er″, es, ec, et))))
+close-does regs size r z sums left right {n} es el er dc el′ er′ dr el″ er″ ep ec eq et =
+    does-bind _ (rw (el, er, es) at dc) (does-bind _ (rw (el′, er′, es) at dr) (does-give n (rw (ep, el″, er″, es, ec, eq, et))))
 
 -- a program's answer, carried further
 carried : {A B C D : Type 0} (p : Prog A) (q : A → Prog B) (f : B → C) (g : C → D) {m n : Mem} {c : C} → Does (bind p (λ a. bind (q a) (λ b. done (f b)))) m c n

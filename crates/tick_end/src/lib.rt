@@ -141,7 +141,7 @@ fn close(
     let rest = Rest {
         noise,
         applied: registers::at(regs, 0x1AA) % 0x40,
-        capture: (r.capture + 2) % 0x400,
+        capture: capture::next(r.capture),
         reverb,
         tick: std::num::wrapping_add_u32(r.tick, 1),
     };

@@ -1,4 +1,3 @@
-use native.Mathlib.Omega.{arith}
 use borrow.Author.Needs.{needs}
 use mir.Facts.{toZ-ofZ}
 use Rattle.soundram.proofs.Programs.{lent-after}
@@ -27,10 +26,10 @@ mixed-requires c κs = search needs
 at-requires : tie.Need-at-requires
 at-requires c κs = search needs
 
-add-t30 : tie.Need-add-t30
-add-t30 c =
-    let s = c .before .before .before .before .before .before .before .before .before .before .before .before .before .before .before .before .before .before .before .before .before .before in
-    let k = s .pre .1 .below in omega arith
+next-requires : tie.Need-next-requires
+next-requires c κs =
+    let s = c .before .before .before .before .before .before .before .before .before .before .before .before .before .before .before .before .before .before .before .before .before in
+    s .pre .1 .below
 
 wrapping-add-u32-requires : tie.Need-wrapping-add-u32-requires
 wrapping-add-u32-requires c κs = search needs
@@ -43,7 +42,8 @@ same-length-2 c = search needs
 
 returns : tie.Need-returns
 returns c =
-    let a = c .before .before in
+    let q = c .before in
+    let a = q .before in
     let b = a .before .before .before in
     let d = b .before .before .before .before .before in
     let e = d .before .before .before .before .before .before .before in
@@ -51,7 +51,7 @@ returns c =
     let s = f .before .before .before in
     let l = toZ-ofZ (s .fits .left) in
     let r = toZ-ofZ (s .fits .right) in
-    close-does _ _ _ _ _ _ _ (f .mix .ensures .0) l r (e .capture .ensures) l r (d .turn .ensures) l r (b .mixed .ensures) (a .at .ensures) (c .wrapping-add-u32 .ensures)
+    close-does _ _ _ _ _ _ _ (f .mix .ensures .0) l r (e .capture .ensures) l r (d .turn .ensures) l r (b .mixed .ensures) (a .at .ensures) (q .next .ensures) (c .wrapping-add-u32 .ensures)
 
 pub close-spec : {M : Type 1} → statement M
 close-spec =
@@ -62,7 +62,7 @@ close-spec =
     turn-requires
     mixed-requires
     at-requires
-    add-t30
+    next-requires
     wrapping-add-u32-requires
     same-length
     same-length-2
