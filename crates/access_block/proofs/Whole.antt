@@ -22,17 +22,6 @@ use Rattle.soundram.specs.Program.{memOf, Does, get, bytesFrom}
 use Rattle.soundram.proofs.Addresses.{forward-small}
 use Rattle.soundram.proofs.Programs.{does-done, does-give, does-bind, does-get}
 
-pub and-first : (a b : Bool) → (a && b) ≡ true → a ≡ true
-and-first true b e = refl
-and-first false b e = e
-
-pub and-rest : (a b : Bool) → (a && b) ≡ true → b ≡ true
-and-rest true b e = e
-and-rest false b e = let z : _≡_ {A = Bool} false true = e in absurd (no z)
-  where
-    no : false ≡ true → ⊥
-    no z = let y : _≡_ {A = ℕ} 0 1 = cc in omega arith
-
 -- bytes copied one by one: the first i of them
 abbrev pub Copied : List ℕ → List ℕ → ℕ → ℕ → Type 0
 Copied ram bs from i = (k : ℕ) → k < i → (getD bs k 0 ≡ getD ram (from + k) 0) × (getD bs k 0 < 256)

@@ -8,6 +8,7 @@ use native.Mathlib.Omega.{arith}
 use lib.Dec.{eqb, leb}
 use lib.ListN.{getD}
 use borrow.Author.Tests.{ltb-true, leb-true, eqb-true, lt-ltb, le-leb, eq-eqb}
+use Rattle.fixed.proofs.Bools.{and-first, and-rest}
 use Rattle.soundram.specs.Address.{Sized}
 use Rattle.voice.specs.declared.Voice.{Voice}
 use Rattle.voice.specs.Range as voice
@@ -17,22 +18,6 @@ use Rattle.chip.specs.State.{allOf, sizeOk, voiceOk, everyOk, baseOf, st
 use Rattle.chip.specs.Range.{Shaped, CaptureIn, PlaceIn, TransferIn, InRange}
 
 -- ---- lists of tests
-
-pub and-first : (a b : Bool) → (a && b) ≡ true → a ≡ true
-and-first true b e = refl
-and-first false b e = e
-
-pub and-rest : (a b : Bool) → (a && b) ≡ true → b ≡ true
-and-rest true b e = e
-and-rest false b e = absurd (false≢true e)
-
-pub or-first : (a b : Bool) → (a || b) ≡ false → a ≡ false
-or-first false b e = refl
-or-first true b e = e
-
-pub or-rest : (a b : Bool) → (a || b) ≡ false → b ≡ false
-or-rest false b e = e
-or-rest true b e = absurd (false≢true (sym e))
 
 data All : List Bool → Type 0 where
   none : All []

@@ -8,6 +8,7 @@ use borrow.Author.Tests.{eq-eqb, eqb-true, ne-eqb, not-false}
 use lib.Dec.{eqb}
 use lib.ListN.{length, getD}
 use lib.IntN.{ℤ, pos}
+use Rattle.fixed.proofs.Bools.{or-first}
 use Rattle.soundram.specs.Address.{Lent}
 use Rattle.soundram.specs.declared.Watch.{Watch}
 use Rattle.soundram.specs.Calls.{Reply}
@@ -16,7 +17,7 @@ use Rattle.soundram.proofs.Programs.{does-done, does-bind, run-kept, Always, en
 use Rattle.chip.specs.declared.State.{State}
 use Rattle.chip.specs.State.{watchOf, watchedOf}
 use Rattle.chip.specs.Range.{InRange}
-use Rattle.chip.proofs.Tests.{or-first, passes, sized}
+use Rattle.chip.proofs.Tests.{passes, sized}
 use Rattle.tick.specs.declared.Pair.{Pair}
 use Rattle.tick.specs.Tick.{tickOf}
 use Rattle.tick.proofs.Range.{tick-in}

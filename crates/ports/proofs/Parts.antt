@@ -8,6 +8,7 @@ use borrow.Author.Tests.{not-true, not-false, ltb-true, leb-true, eq-eqb, ne-eqb
 use lib.Dec.{eqb, leb, ltb}
 use lib.ListN.{getD, set}
 use Rattle.fixed.specs.Bits.{bit}
+use Rattle.fixed.proofs.Bools.{and-first, and-rest}
 use Rattle.noise.specs.declared.Noise.{Noise}
 use Rattle.noise.specs.Noise.{writtenOf}
 use Rattle.soundram.specs.declared.ByteAddress.{ByteAddress}
@@ -18,7 +19,6 @@ use Rattle.voice.specs.Voice.{keyedOn, keyedOff, stoppedOf}
 use Rattle.voices.specs.Voices.{pastEnd}
 use Rattle.chip.specs.declared.State.{State}
 use Rattle.chip.specs.State.{withRegs, withVoices, withReverb, withTransfer}
-use Rattle.chip.proofs.Tests.{and-first, and-rest}
 use Rattle.ports.specs.Registers.{onBits, onKeys, keyed, keyOn, keyOff, repeated, setRepeat, stopFirst, setControl, isRepeat, isKeyOn, isKeyOff, placed, effectOf, writeOf}
 
 pub key-none : (size : ℕ) (regs : List ℕ) (n : ℕ) (v : Voice) (b on : Bool) → not b ≡ true → v ≡ cond b (keyed on size regs n v) v

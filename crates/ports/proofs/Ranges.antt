@@ -10,6 +10,7 @@ use lib.ListN.{length, set, length-set}
 use lib.Seq.{getD-set-same, getD-set-other}
 use borrow.Author.Tests.{eqb-true}
 use Rattle.fixed.specs.Bits.{bit}
+use Rattle.fixed.proofs.Bools.{and-first}
 use Rattle.noise.proofs.Range.{written-in}
 use Rattle.soundram.proofs.Addresses.{address-below}
 use Rattle.registers.specs.Map.{registerAt}
@@ -22,7 +23,7 @@ use Rattle.voices.proofs.Turns.{all-set}
 use Rattle.chip.specs.declared.State.{State}
 use Rattle.chip.specs.State.{withRegs, withVoices}
 use Rattle.chip.specs.Range.{InRange}
-use Rattle.chip.proofs.Tests.{and-first, sized}
+use Rattle.chip.proofs.Tests.{sized}
 use Rattle.chip.proofs.Ranges.{placed-even, placed-most, transfer-in}
 use Rattle.ports.specs.Registers.{onBits, onKeys, keyOn, keyOff, setRepeat, repeated, stopFirst, setControl, effectOf, writeOf}
 use Rattle.ports.proofs.Writes.{of-both, of-effects}

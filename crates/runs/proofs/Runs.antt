@@ -14,11 +14,8 @@ use Rattle.soundram.specs.declared.Watch.{Watch}
 use Rattle.soundram.specs.Address.{Lent}
 use Rattle.soundram.specs.Program.{memOf, Does}
 use Rattle.soundram.proofs.Programs.{does-kept, always-does, lent-after}
-use Rattle.fixed.specs.Bits.{bit}
-use Rattle.registers.specs.Map.{registerAt, ofVoice, Flags}
+use Rattle.registers.specs.Map.{registerAt}
 use Rattle.voice.specs.declared.Settings.{Settings}
-use Rattle.voice.specs.Voice.{soundOf, amplitudeOf, movementOf, targetOf}
-use Rattle.voices.specs.Voices.{Modulated, settingsOf}
 use Rattle.voice.specs.declared.Voice.{Voice}
 use Rattle.voices.proofs.Turns.{Play, play-none, play-all, play-before}
 use Rattle.chip.specs.declared.State.{State}
@@ -31,26 +28,7 @@ use Rattle.tick.specs.Tick.{tickOf}
 use Rattle.tick.specs.Run.{joinOf, beginOf, Finishes}
 use Rattle.tick.proofs.Parts.{tick-does}
 use Rattle.tick.proofs.Range.{tick-in}
-use Rattle.runs.specs.Run.{Run, tickedBy, ranOf, Toned}
-
--- ---- of a voice's settings, what a tick looks at: t has the same pitch, modulation and noise as s
-
-pub tone-as : (regs : List ℕ) (n : ℕ) {pmon non p : ℕ} {m o : Bool} → n < 24 → Modulated regs pmon → Flags regs 0x194 non → p ≡ ofVoice regs n 4 → m ≡ bit n pmon → o ≡ bit n non
-    → Toned (settingsOf regs n) (record { pitch = p; low = 0; high = 0; modulated = m; noise = o })
-unfolding settingsOf
-tone-as regs n h f g e q r = record { pitch = e; modulated = q ∙ f .each n h; noise = r ∙ g .each n h }
-
-module _ {s t : Settings} (e : Toned s t) (below : ℤ) (v : Voice) where
-  pub tone-counter : {c : ℕ} → c ≡ movementOf t below v .counter → c ≡ movementOf s below v .counter
-  tone-counter p = p ∙ rw (e .pitch, e .modulated)
-
-  pub tone-target : {i : ℕ} → i ≡ targetOf t below v → i ≡ targetOf s below v
-  unfolding targetOf
-  tone-target p = p ∙ rw (e .pitch, e .modulated)
-
-  pub tone-amplitude : (level : ℕ) {a : ℤ} → a ≡ amplitudeOf t level v → a ≡ amplitudeOf s level v
-  unfolding amplitudeOf soundOf
-  tone-amplitude level p = p ∙ rw (e .noise)
+use Rattle.runs.specs.Run.{Run, tickedBy, ranOf}
 
 pub stepped-as : {s z : Settings} (e : Envelope) {x : Envelope} → s ≡ z → x ≡ tickedOf e (s .low) (s .high) → x ≡ tickedOf e (z .low) (z .high)
 stepped-as e p q = rw p at q

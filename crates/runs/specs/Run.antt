@@ -1,12 +1,10 @@
 -- A run of ticks: each on what the one before it left, over a pair of CD samples and into a pair of a lent buffer. Assumes nothing.
-use mathlib.Core.Path.{_≡_}
 use mathlib.Core.Bool.{cond, _&&_, not}
 use mathlib.Core.List.{List}
 use Prim.Native.Nat.{ℕ, zero, suc, _+_, _*_}
 use lib.ListN.{getD, set}
 use lib.IntN.{ℤ, pos}
 use Rattle.soundram.specs.Program.{memOf, run}
-use Rattle.voice.specs.declared.Settings.{Settings}
 use Rattle.chip.specs.declared.State.{State}
 use Rattle.chip.specs.State.{watchOf, watchedOf}
 use Rattle.tick.specs.Tick.{tickOf}
@@ -38,9 +36,3 @@ tickedBy cd k f =
 unfoldable pub ranOf : List ℤ → ℕ → Run → Run
 ranOf cd zero f = f
 ranOf cd (suc k) f = tickedBy cd k (ranOf cd k f)
-
--- of the settings of a voice, t has what every tick looks at as s has it; its envelope's rates may be others
-pub record Toned (s t : Settings) : Type 0 where
-  pub pitch : t .pitch ≡ s .pitch
-  pub modulated : t .modulated ≡ s .modulated
-  pub noise : t .noise ≡ s .noise

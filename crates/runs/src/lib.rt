@@ -1,18 +1,15 @@
 // A run of ticks.
 ghost use mathlib.Core.Path.{_≡_};
-ghost use Prim.Native.Nat.{_/_, _<_};
+ghost use Prim.Native.Nat.{_/_};
 ghost use lib.ListN.{length};
 ghost use Rattle.soundram.specs.Address.{Lent};
-ghost use Rattle.registers.specs.Map.{Flags};
-ghost use Rattle.voices.specs.Voices.{Modulated, settingsOf};
 ghost use Rattle.chip.specs.Range.{InRange};
 ghost use Rattle.tick.specs.Run.{joinOf};
-ghost use Rattle.runs.specs.Run.{ranOf, Toned};
+ghost use Rattle.runs.specs.Run.{ranOf};
 use chip::Control;
 use chip::State;
 use soundram::Watch;
 use tick::Rest;
-use voice::Settings;
 use voice::Voice;
 
 // What a run gives: the state, and the ticks that raised the interrupt and the doubt, or as many as there were.
@@ -44,20 +41,6 @@ fn join(s: State, v: [Voice; 24], r: Rest, w: Watch) -> State
     t
 }
 
-// Of voice n's settings what every tick looks at; its envelope's rates are left out.
-fn tone(regs: &[u16; 256], pmon: u32, non: u32, n: usize) -> Settings
-    requires { ⌜ (n < 24) × Modulated (now regs) pmon × Flags (now regs) 0x194 non ⌝ }
-    ensures { λ r. ⌜ Toned (settingsOf (now (regs .entry)) n) r ⌝ }
-{
-    Settings {
-        pitch: registers::of_voice(regs, n, 4),
-        low: 0,
-        high: 0,
-        modulated: registers::has(pmon, n),
-        noise: registers::has(non, n),
-    }
-}
-
 // As many ticks as the buffer holds pairs. One loop goes through the ticks and through the voices of each, so that no voice is copied; voices that
 // stay in their block, most of them, change in place.
 pub fn run(s: State, ram: &mut [u8], marks: &mut [u8], cd: &[i16], out: &mut [i16]) -> Ran
@@ -69,6 +52,7 @@ pub fn run(s: State, ram: &mut [u8], marks: &mut [u8], cd: &[i16], out: &mut [i1
     let pmon = voices::modulation(&s.regs);
     let non = registers::flags(&s.regs, 0x194);
     let volumes = voices::volumes(&s.regs);
+    let steps = voices_glide::steps(&s.regs, pmon, non);
     let count = out.len() / 2;
     let mut g = tick_end::begin(s, count);
     let mut watch = g.watch;
@@ -109,9 +93,19 @@ pub fn run(s: State, ram: &mut [u8], marks: &mut [u8], cd: &[i16], out: &mut [i1
             n = n + 1;
             continue;
         }
-        let tone = tone(&s.regs, pmon, non, n);
+        let step = steps[n];
         let x = voices[n];
-        let m = voice_sound::glide(&table, first, tone, below, g.noise.level);
+        let m = voices_glide::glide(
+            &table,
+            &s.regs,
+            pmon,
+            non,
+            n,
+            first,
+            step,
+            below,
+            g.noise.level,
+        );
         if !x.playing.loaded | (27 < m.target) {
             let v = voices[n];
             let set = voices::settings_by(&s.regs, pmon, non, n);

@@ -7,13 +7,14 @@ use native.Mathlib.Omega.{arith}
 use borrow.Author.Tests.{eqb-true, not-false, ne-eqb}
 use lib.Dec.{eqb}
 use lib.ListN.{length}
+use Rattle.fixed.proofs.Bools.{or-first, or-rest}
 use Rattle.soundram.specs.declared.Watch.{Watch}
 use Rattle.soundram.specs.Address.{Lent}
 use Rattle.soundram.specs.Program.{Prog, memOf, Result, Does, trace}
 use Rattle.soundram.specs.Calls.{Reply, still, works, Outcome, outcome}
 use Rattle.chip.specs.declared.State.{State}
 use Rattle.chip.specs.State.{stateOk, watchOf, watchedOf}
-use Rattle.chip.proofs.Tests.{or-first, or-rest, ok-sized}
+use Rattle.chip.proofs.Tests.{ok-sized}
 use Rattle.spu.specs.Step.{Call, Answer, Test, firstOf, lentTests, numberOf, refusedOf, acceptedOf, stepOf, chip, outcomeOf, Leaves}
 use Rattle.spu.proofs.Range.{passed-first, passed-rest}
 

@@ -9,13 +9,13 @@ use lib.Dec.{eqb, ltb}
 use lib.ListN.{length}
 use mir.Syntax.{w32}
 use mir.Val.{Fits}
+use Rattle.fixed.proofs.Bools.{or-rest}
 use Rattle.soundram.specs.declared.ByteAddress.{ByteAddress}
 use Rattle.soundram.specs.declared.Watch.{Watch}
 use Rattle.soundram.specs.Program.{memOf, Does}
 use Rattle.soundram.proofs.Programs.{does-done, does-bind}
 use Rattle.chip.specs.declared.State.{State}
 use Rattle.chip.specs.State.{withTransfer, watchOf, watchedOf}
-use Rattle.chip.proofs.Tests.{or-rest}
 use Rattle.transfer.specs.Transfer.{inwardOf, outwardOf}
 use Rattle.spu_transfer.specs.declared.Transferred.{Transferred}
 use Rattle.spu.specs.Step.{transferIn, transferOut, moved, movedOut, Test, test, firstOf, notInward, notOutward, lentTests, moveTests, numberOf, refusedOf, acceptedOf, Leaves, badCount}

@@ -8,10 +8,11 @@ use native.Mathlib.Omega.{arith}
 use borrow.Author.Tests.{eqb-true, ltb-false, not-false, ne-eqb, eq-eqb}
 use lib.Dec.{eqb}
 use lib.ListN.{length, take, drop, length-take, length-drop}
+use Rattle.fixed.proofs.Bools.{or-rest}
 use Rattle.soundram.specs.Calls.{still, outcome}
 use Rattle.chip.specs.declared.State.{State}
 use Rattle.chip.specs.State.{stateOk}
-use Rattle.chip.proofs.Tests.{or-rest, ok-sized}
+use Rattle.chip.proofs.Tests.{ok-sized}
 use Rattle.spu.specs.Step.{view, viewed, numberOf, refusedOf, acceptedOf, stepOf, chip, outcomeOf, viewOf, badBlock}
 use Rattle.spu.proofs.Range.{passed-first, passed-rest}
 use Rattle.spu.proofs.Numbers.{here, later, none}

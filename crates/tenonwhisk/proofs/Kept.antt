@@ -9,11 +9,11 @@ use lib.ListN.{length}
 use lib.IntN.{ℤ}
 use lib.Ieee.{Float}
 use borrow.Author.Tests.{eq-eqb, ne-eqb, eqb-true, not-true, not-false}
+use Rattle.fixed.proofs.Bools.{and-first}
 use Rattle.soundram.specs.Calls.{Reply, Doing, still, works, Outcome, outcome}
 use Rattle.soundram.proofs.Programs.{Always, ends, always-bind, always-any, always-run}
 use Rattle.chip.specs.declared.State.{State}
 use Rattle.chip.specs.State.{freshOf, allOf, sizeOk, stateOk}
-use Rattle.chip.proofs.Tests.{and-first}
 use Rattle.image.specs.declared.Loaded.{Loaded}
 use Rattle.image.specs.Image.{imageLength, imageOf, stateOf, isImage, loadedOf}
 use Rattle.spu.specs.Step.{Call, write, read, transferIn, transferOut, tick, tickFloats, reset, view, Answer, written, value, moved, movedOut, pair, floats, made, viewed, numberOf, refusedOf, acceptedOf, stepOf, chip, outcomeOf, Gives, Leaves, firstOf, makeOf}

@@ -4,7 +4,8 @@ use native.Mathlib.Omega.{arith}
 use lib.Dec.{eqb}
 use borrow.Author.Tests.{eqb-true}
 use borrow.Author.Needs.{needs}
-use Rattle.access_block.proofs.Whole.{and-first, and-rest, whole-does}
+use Rattle.fixed.proofs.Bools.{and-first, and-rest}
+use Rattle.access_block.proofs.Whole.{whole-does}
 use Rattle.access_block.proofs.load.Statement.{statement}
 use Rattle.access_block.proofs.load.Tie as tie
 
