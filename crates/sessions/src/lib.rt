@@ -170,7 +170,7 @@ fn outward_into(
 ) -> Session {
     let r = spu_transfer::transfer_out(s.state, ram, marks, buffer);
     let state = r.state;
-    let place = answers::moved_out(out, s.place, r.number, r.count, r.irq, r.doubt, buffer);
+    let place = answers_memory::moved_out(out, s.place, r.number, r.count, r.irq, r.doubt, buffer);
     changed(s, state, place)
 }
 
@@ -193,9 +193,9 @@ fn tick_answer(
 ) -> usize {
     let tick = s.state.tick;
     if s.bench {
-        return answers::bench_ticked(out, s.place, tick, left, right, after);
+        return answers_ticks::bench_ticked(out, s.place, tick, left, right, after);
     }
-    answers::ticked(out, s.place, number, tick, left, right, irq, doubt, after)
+    answers_ticks::ticked(out, s.place, number, tick, left, right, irq, doubt, after)
 }
 
 fn tick(
@@ -232,7 +232,7 @@ fn tick_floats(
     let r = spu_tick::tick_floats(s.state, ram, marks, left, right);
     let state = r.state;
     let pair = r.pair;
-    let place = answers::ticked_floats(
+    let place = answers_ticks::ticked_floats(
         out,
         s.place,
         r.number,
@@ -284,7 +284,7 @@ fn ticks(
 fn view(ram: &[u8], out: &mut [u8], s: Session, address: u32) -> Session {
     let number = spu_view::view_number(s.state, ram, address);
     let bytes = spu_view::block_view(s.state, ram, address);
-    placed(s, answers::viewed(out, s.place, number, bytes))
+    placed(s, answers_memory::viewed(out, s.place, number, bytes))
 }
 
 fn store(ram: &mut [u8], i: usize, byte: u8)
@@ -330,10 +330,13 @@ fn obey(
         Command::View { address } => view(ram, out, s, address),
         Command::Reset => reset(out, s),
         Command::Ram { address, count } => {
-            placed(s, answers::ram(out, s.place, address, count, ram))
+            placed(s, answers_memory::ram(out, s.place, address, count, ram))
         }
         Command::Marks { address, count } => {
-            placed(s, answers::marks(out, s.place, address, count, marks))
+            placed(
+                s,
+                answers_memory::marks(out, s.place, address, count, marks),
+            )
         }
         Command::Fill {
             address,
