@@ -1,7 +1,6 @@
-// The command that a line gives.
+// The command that a line gives: the lines of the core's calls.
 ghost use mathlib.Core.Path.{_≡_};
-ghost use Prim.Native.Nat.{_≤_};
-ghost use Rattle.commands.specs.Command.{writeOf, readOf, inwardOf, valuesOf, outwardOf, plainOf, tickOf, viewOf, resetOf, ranged as rangedOf, ramOf, marksOf, fillOf, wordOf, benchOf, rawOf, runOf, dataOf, replayOf};
+ghost use Rattle.commands.specs.Command.{writeOf, readOf, inwardOf, valuesOf, outwardOf, plainOf, tickOf, viewOf, resetOf};
 use lines::Line;
 
 pub enum Command {
@@ -48,7 +47,7 @@ pub enum Command {
     },
 }
 
-fn write_line(l: Line) -> Command
+pub fn write_line(l: Line) -> Command
     ensures { λ r. ⌜ r ≡ writeOf l ⌝ }
 {
     let fields = l.fields;
@@ -63,7 +62,7 @@ fn write_line(l: Line) -> Command
     Command::Bad
 }
 
-fn read_line(l: Line) -> Command
+pub fn read_line(l: Line) -> Command
     ensures { λ r. ⌜ r ≡ readOf l ⌝ }
 {
     let fields = l.fields;
@@ -76,7 +75,7 @@ fn read_line(l: Line) -> Command
     Command::Bad
 }
 
-fn inward_line(l: Line) -> Command
+pub fn inward_line(l: Line) -> Command
     ensures { λ r. ⌜ r ≡ inwardOf l ⌝ }
 {
     let n = l.count;
@@ -99,7 +98,7 @@ pub fn values(l: Line) -> [u16; 33]
     out
 }
 
-fn outward_line(l: Line) -> Command
+pub fn outward_line(l: Line) -> Command
     ensures { λ r. ⌜ r ≡ outwardOf l ⌝ }
 {
     let fields = l.fields;
@@ -112,7 +111,7 @@ fn outward_line(l: Line) -> Command
     Command::Bad
 }
 
-fn plain_line(floats: bool, l: Line) -> Command
+pub fn plain_line(floats: bool, l: Line) -> Command
     ensures { λ r. ⌜ r ≡ plainOf floats l ⌝ }
 {
     let fields = l.fields;
@@ -128,7 +127,7 @@ fn plain_line(floats: bool, l: Line) -> Command
     Command::Bad
 }
 
-fn tick_line(floats: bool, l: Line) -> Command
+pub fn tick_line(floats: bool, l: Line) -> Command
     ensures { λ r. ⌜ r ≡ tickOf floats l ⌝ }
 {
     let fields = l.fields;
@@ -148,7 +147,7 @@ fn tick_line(floats: bool, l: Line) -> Command
     plain_line(floats, l)
 }
 
-fn view_line(l: Line) -> Command
+pub fn view_line(l: Line) -> Command
     ensures { λ r. ⌜ r ≡ viewOf l ⌝ }
 {
     let fields = l.fields;
@@ -161,162 +160,11 @@ fn view_line(l: Line) -> Command
     Command::Bad
 }
 
-fn reset_line(l: Line) -> Command
+pub fn reset_line(l: Line) -> Command
     ensures { λ r. ⌜ r ≡ resetOf l ⌝ }
 {
     if l.count == 1 {
         return Command::Reset;
     }
     Command::Bad
-}
-
-// Whether the first two fields after the command are a range of units within sound RAM.
-fn ranged(size: u64, unit: u64, least: u64, most: u64, l: Line) -> bool
-    requires { ⌜ (unit ≤ 2) × (most ≤ 0x80000) ⌝ }
-    ensures { λ r. ⌜ r ≡ rangedOf size unit least most l ⌝ }
-{
-    let fields = l.fields;
-    let a = fields[1];
-    let b = fields[2];
-    if lines::is_hex(a, 1, 8) & lines::is_count(b, least, most) {
-        return a.value % 0x100000000 + unit * b.count <= size;
-    }
-    false
-}
-
-fn ram_line(size: u64, l: Line) -> Command
-    ensures { λ r. ⌜ r ≡ ramOf size l ⌝ }
-{
-    let fields = l.fields;
-    let a = fields[1];
-    let b = fields[2];
-    if (l.count == 3) & ranged(size, 1, 1, 64, l) {
-        return Command::Ram {
-            address: (a.value % 0x100000000) as u32,
-            count: (b.count % 0x100000) as u32,
-        };
-    }
-    Command::Bad
-}
-
-fn marks_line(size: u64, l: Line) -> Command
-    ensures { λ r. ⌜ r ≡ marksOf size l ⌝ }
-{
-    let fields = l.fields;
-    let a = fields[1];
-    let b = fields[2];
-    if (l.count == 3) & (ranged(size, 2, 1, 64, l) & (a.value % 0x100000000 % 2 == 0)) {
-        return Command::Marks {
-            address: (a.value % 0x100000000) as u32,
-            count: (b.count % 0x100000) as u32,
-        };
-    }
-    Command::Bad
-}
-
-fn fill_line(size: u64, l: Line) -> Command
-    ensures { λ r. ⌜ r ≡ fillOf size l ⌝ }
-{
-    let fields = l.fields;
-    let a = fields[1];
-    let b = fields[2];
-    let d = fields[3];
-    if (l.count == 4) & (ranged(size, 1, 0, 0x80000, l) & lines::is_hex(d, 1, 2)) {
-        return Command::Fill {
-            address: (a.value % 0x100000000) as u32,
-            count: (b.count % 0x100000) as u32,
-            byte: (d.value % 0x100) as u8,
-        };
-    }
-    Command::Bad
-}
-
-// The bytes of a line's first field as one number, after a leading 1.
-fn word(l: Line) -> u64
-    ensures { λ r. ⌜ r ≡ wordOf l ⌝ }
-{
-    let fields = l.fields;
-    let a = fields[0];
-    a.word
-}
-
-// The command of a line of bench.
-pub fn bench(l: Line) -> Command
-    ensures { λ r. ⌜ r ≡ benchOf l ⌝ }
-{
-    let w = word(l);
-    if w == 0x177 {
-        return write_line(l);
-    }
-    if w == 0x173 {
-        return inward_line(l);
-    }
-    if w == 0x174 {
-        return plain_line(false, l);
-    }
-    Command::Bad
-}
-
-fn raw(size: u64, l: Line) -> Command
-    ensures { λ r. ⌜ r ≡ rawOf size l ⌝ }
-{
-    let w = word(l);
-    if w == 0x172616D {
-        return ram_line(size, l);
-    }
-    if w == 0x16D61726B73 {
-        return marks_line(size, l);
-    }
-    if w == 0x166696C6C {
-        return fill_line(size, l);
-    }
-    Command::Bad
-}
-
-fn run(size: u64, l: Line) -> Command
-    ensures { λ r. ⌜ r ≡ runOf size l ⌝ }
-{
-    let w = word(l);
-    if w == 0x174 {
-        return tick_line(false, l);
-    }
-    if w == 0x166 {
-        return tick_line(true, l);
-    }
-    if w == 0x176 {
-        return view_line(l);
-    }
-    if w == 0x17265736574 {
-        return reset_line(l);
-    }
-    raw(size, l)
-}
-
-fn data(size: u64, l: Line) -> Command
-    ensures { λ r. ⌜ r ≡ dataOf size l ⌝ }
-{
-    let w = word(l);
-    if w == 0x177 {
-        return write_line(l);
-    }
-    if w == 0x172 {
-        return read_line(l);
-    }
-    if w == 0x173 {
-        return inward_line(l);
-    }
-    if w == 0x16F {
-        return outward_line(l);
-    }
-    run(size, l)
-}
-
-// The command of a line of replay, on a sound RAM of size bytes.
-pub fn replay(size: u64, l: Line) -> Command
-    ensures { λ r. ⌜ r ≡ replayOf size l ⌝ }
-{
-    if (l.count == 0) | l.comment {
-        return Command::Quiet;
-    }
-    data(size, l)
 }

@@ -353,9 +353,9 @@ fn obey(
 
 fn command_of(s: Session, l: Line) -> Command {
     if s.bench {
-        return commands::bench(l);
+        return commands_word::bench(l);
     }
-    commands::replay(s.state.choices.size as u64, l)
+    commands_word::replay(s.state.choices.size as u64, l)
 }
 
 // The answer to a line that has ended.

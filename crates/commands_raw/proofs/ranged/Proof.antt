@@ -1,8 +1,8 @@
-use Rattle.commands.proofs.Laws.{bytes-fit, end-fits, in-range, no-range}
+use Rattle.commands_raw.proofs.Laws.{bytes-fit, end-fits, in-range, no-range}
 use Rattle.commands.specs.Command.{ranged}
 use borrow.Author.Needs.{needs}
-use Rattle.commands.proofs.ranged.Statement.{statement}
-use Rattle.commands.proofs.ranged.Tie as tie
+use Rattle.commands_raw.proofs.ranged.Statement.{statement}
+use Rattle.commands_raw.proofs.ranged.Tie as tie
 
 array-copy-out-a : tie.Need-array-copy-out-a
 array-copy-out-a c = search needs

@@ -1,8 +1,8 @@
 use Rattle.commands.proofs.Laws.{pick-2, pass-2}
 use Rattle.commands.specs.Command.{fillOf}
 use borrow.Author.Needs.{needs}
-use Rattle.commands.proofs.fill_line.Statement.{statement}
-use Rattle.commands.proofs.fill_line.Tie as tie
+use Rattle.commands_raw.proofs.fill_line.Statement.{statement}
+use Rattle.commands_raw.proofs.fill_line.Tie as tie
 
 array-copy-out-a : tie.Need-array-copy-out-a
 array-copy-out-a c = search needs

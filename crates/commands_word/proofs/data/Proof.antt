@@ -1,8 +1,8 @@
-use Rattle.commands.proofs.Laws.{chosen-here, chosen-later, chosen-other}
+use Rattle.commands_word.proofs.Laws.{chosen-here, chosen-later, chosen-other}
 use Rattle.commands.specs.Command.{dataOf}
 use borrow.Author.Needs.{needs}
-use Rattle.commands.proofs.data.Statement.{statement}
-use Rattle.commands.proofs.data.Tie as tie
+use Rattle.commands_word.proofs.data.Statement.{statement}
+use Rattle.commands_word.proofs.data.Tie as tie
 
 word-requires : tie.Need-word-requires
 word-requires c κs = search needs

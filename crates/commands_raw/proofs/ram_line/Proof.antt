@@ -1,8 +1,8 @@
 use Rattle.commands.proofs.Laws.{pick-1, pass-1}
 use Rattle.commands.specs.Command.{ramOf}
 use borrow.Author.Needs.{needs}
-use Rattle.commands.proofs.ram_line.Statement.{statement}
-use Rattle.commands.proofs.ram_line.Tie as tie
+use Rattle.commands_raw.proofs.ram_line.Statement.{statement}
+use Rattle.commands_raw.proofs.ram_line.Tie as tie
 
 array-copy-out-a : tie.Need-array-copy-out-a
 array-copy-out-a c = search needs

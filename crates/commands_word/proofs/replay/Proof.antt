@@ -1,8 +1,9 @@
-use Rattle.commands.proofs.Laws.{pick, loud}
+use Rattle.commands_word.proofs.Laws.{loud}
+use Rattle.commands.proofs.Laws.{pick}
 use Rattle.commands.specs.Command.{replayOf}
 use borrow.Author.Needs.{needs}
-use Rattle.commands.proofs.replay.Statement.{statement}
-use Rattle.commands.proofs.replay.Tie as tie
+use Rattle.commands_word.proofs.replay.Statement.{statement}
+use Rattle.commands_word.proofs.replay.Tie as tie
 
 returns : tie.Need-returns
 unfolding replayOf
