@@ -1,23 +1,18 @@
 -- Laws of digits and of numbers up to a limit. Assumes nothing.
-use mathlib.Core.Path.{_≡_, refl, sym, ap, _∙_}
+use mathlib.Core.Path.{_≡_, refl, sym, _∙_}
 use mathlib.Core.Bool.{Bool, true, false, cond, _&&_}
-use mathlib.Core.List.{List, [], _∷_}
-use Prim.Native.Nat.{ℕ, zero, suc, _+_, _-_, _*_, _≤_, _<_, min}
+use Prim.Native.Nat.{ℕ, _+_, _-_, _*_, _≤_, _<_, min}
 use native.Mathlib.Omega.{arith}
 use native.Mathlib.Nat.{le-trans, lt-of-le-of-lt, mul-one, mul-le-mul, min-eq-left, min-eq-right, min-le-right, le-mul-of-pos-right}
 use native.Mathlib.Decide.{decLe}
-use native.Mathlib.Numerals.{add-one}
-use lib.Dec.{leb, ltb, eqb, lit<}
+use lib.Dec.{leb, ltb, lit<}
 use mir.Syntax.{w64}
 use mir.Val.{Fits}
-use lib.ListN.{length, getD, drop, set, drop-of-length-le}
-use lib.Seq.{set-out, drop-cons}
 use borrow.Author.Tests.{leb-true, eq-eqb, ne-eqb}
-use Rattle.lines.specs.Fields.{blank, digitOf}
-use Rattle.lines.specs.Line.{lengthLimit, wordLimit, valueLimit, countLimit, moreOf, joinedOf, endedOf, begunOf, grownOf, feedOf, scanOf}
+use Rattle.lines.specs.Fields.{digitOf}
+use Rattle.lines.specs.Line.{lengthLimit, wordLimit, valueLimit, countLimit, moreOf, joinedOf, endedOf}
 use Rattle.lines.specs.declared.Field.{Field}
 use Rattle.lines.specs.declared.Line.{Line}
-use Rattle.lines.specs.declared.Scanned.{Scanned}
 
 -- ---- digits
 
@@ -104,9 +99,6 @@ longer-sum n m base d limit e most low h =
 
 -- ---- fields
 
-pub set-past : {A : Type 0} (fs : List A) {n : ℕ} (f : A) → length fs ≡ 34 → 34 ≤ n → fs ≡ set fs n f
-set-past fs {n} f e h = sym (set-out fs n f (omega (arith, e)))
-
 pub more-parts : (f : Field) (b d : ℕ) {l w v k : ℕ} → d ≡ digitOf b
     → l ≡ min (f .length * 1 + 1) lengthLimit → w ≡ min (f .word * 256 + b) wordLimit
     → v ≡ min (f .value * 16 + d) valueLimit → k ≡ min (f .count * 10 + d) countLimit
@@ -123,26 +115,3 @@ ended-same l e = rw (eq-eqb (l .running .length) 0 e)
 pub ended-joined : (l : Line) {r : Line} → (l .running .length ≡ 0 → ⊥) → r ≡ joinedOf l → r ≡ endedOf l
 unfolding endedOf
 ended-joined l h e = rw (ne-eqb (l .running .length) 0 h) e
-
-pub feed-blank : (l : Line) (b : ℕ) {t r : Line} {x : Bool} → t ≡ begunOf l b → x ≡ blank b → x ≡ true → r ≡ endedOf t → r ≡ feedOf l b
-unfolding feedOf
-feed-blank l b p q h e = rw (← q, h, ← p) e
-
-pub feed-other : (l : Line) (b : ℕ) {t r : Line} {x : Bool} → t ≡ begunOf l b → x ≡ blank b → x ≡ false → r ≡ grownOf t b → r ≡ feedOf l b
-unfolding feedOf
-feed-other l b p q h e = rw (← q, h, ← p) e
-
--- ---- a run of bytes
-
-module _ (bytes : List ℕ) (i : ℕ) (l : Line) (r : Scanned) (e : scanOf l i (drop i bytes) ≡ r) where
-  pub scan-more : {k : Line} → i < length bytes → (getD bytes i 0 ≡ 10 → ⊥) → k ≡ feedOf l (getD bytes i 0) → scanOf k (i + 1) (drop (i + 1) bytes) ≡ r
-  unfolding scanOf
-  scan-more h n f = rw (f, add-one) (sym (rw (ne-eqb (getD bytes i 0) 10 n, add-one)) ∙ rw (drop-cons bytes i 0 h) at e)
-
-  pub scan-end : i < length bytes → getD bytes i 0 ≡ 10 → record { line = l; at = i + 1; ended = true } ≡ r
-  unfolding scanOf
-  scan-end h n = rw (eq-eqb (getD bytes i 0) 10 n) at (rw (drop-cons bytes i 0 h) at e)
-
-  pub scan-out : length bytes ≤ i → record { line = l; at = i; ended = false } ≡ r
-  unfolding scanOf
-  scan-out h = rw (drop-of-length-le bytes h) at e

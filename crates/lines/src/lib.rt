@@ -1,9 +1,8 @@
 // What is kept of a line of text that is read byte by byte. A line may be of any length: what is kept is bounded.
 ghost use mathlib.Core.Path.{_≡_};
 ghost use Prim.Native.Nat.{_+_, _*_, _<_, _≤_, min};
-ghost use lib.ListN.{drop, set};
-ghost use Rattle.lines.specs.Fields.{blank as blankAt, digitOf};
-ghost use Rattle.lines.specs.Line.{noneOf, moreOf, isHex, isCount, freshOf, joinedOf, endedOf, begunOf, grownOf, feedOf, scanOf};
+ghost use Rattle.lines.specs.Fields.{digitOf};
+ghost use Rattle.lines.specs.Line.{noneOf, moreOf, isHex, isCount, freshOf};
 
 // A field: its length, its bytes as one number, and its value if its bytes are digits, each up to a limit.
 pub struct Field {
@@ -26,10 +25,11 @@ pub struct Line {
     pub halfwords: bool,
 }
 
-fn blank(b: u8) -> bool
-    ensures { λ r. ⌜ r ≡ blankAt b ⌝ }
-{
-    (b == b' ') | ((b == b'\t') | (b == b'\r'))
+// A line after a run of bytes, the index past the last of them, and whether that was the line's end.
+pub struct Scanned {
+    pub line: Line,
+    pub at: usize,
+    pub ended: bool,
 }
 
 fn digit(b: u8) -> u64
@@ -78,7 +78,7 @@ impl Field {
 }
 
 // A field with one byte more.
-fn more(f: Field, b: u8) -> Field
+pub fn more(f: Field, b: u8) -> Field
     ensures { λ r. ⌜ r ≡ moreOf f b ⌝ }
 {
     let d = digit(b);
@@ -121,111 +121,5 @@ impl Line {
             count: 0,
             halfwords: true,
         }
-    }
-}
-
-fn stored(fields: [Field; 34], n: usize, f: Field) -> [Field; 34]
-    ensures { λ r. ⌜ r ≡ set fields n f ⌝ }
-{
-    let mut t = fields;
-    if n < 34 {
-        t[n] = f;
-        return t;
-    }
-    t
-}
-
-fn one_more(n: usize) -> usize
-    ensures { λ r. ⌜ r ≡ min (n + 1) 34 ⌝ }
-{
-    if n < 34 { n + 1 } else { 34 }
-}
-
-// The running field joins the others.
-fn join(l: Line) -> Line
-    ensures { λ r. ⌜ r ≡ joinedOf l ⌝ }
-{
-    let n = l.count;
-    let f = l.running;
-    let before = l.fields;
-    let fields = stored(before, n, f);
-    let running = Field::none();
-    Line {
-        begun: l.begun,
-        comment: l.comment,
-        running,
-        fields,
-        count: one_more(n),
-        halfwords: l.halfwords & ((n == 0) | is_hex(f, 1, 4)),
-    }
-}
-
-// The end of the field that runs, if one does: at a blank, and at the line's end.
-pub fn finish(l: Line) -> Line
-    ensures { λ r. ⌜ r ≡ endedOf l ⌝ }
-{
-    if l.running.length == 0 {
-        return l;
-    }
-    join(l)
-}
-
-fn begin(l: Line, b: u8) -> Line
-    ensures { λ r. ⌜ r ≡ begunOf l b ⌝ }
-{
-    let mut t = l;
-    t.begun = true;
-    t.comment = l.comment | (!l.begun & (b == b'#'));
-    t
-}
-
-fn grow(l: Line, b: u8) -> Line
-    ensures { λ r. ⌜ r ≡ grownOf l b ⌝ }
-{
-    let running = more(l.running, b);
-    let mut t = l;
-    t.running = running;
-    t
-}
-
-// A line with one byte more.
-pub fn feed(l: Line, b: u8) -> Line
-    ensures { λ r. ⌜ r ≡ feedOf l b ⌝ }
-{
-    let t = begin(l, b);
-    if blank(b) {
-        return finish(t);
-    }
-    grow(t, b)
-}
-
-// A line after a run of bytes, the index past the last of them, and whether that was the line's end.
-pub struct Scanned {
-    pub line: Line,
-    pub at: usize,
-    pub ended: bool,
-}
-
-// The bytes from an index on, up to a line's end or their own.
-pub fn scan(l: Line, bytes: &[u8], from: usize) -> Scanned
-    ensures { λ r. ⌜ r ≡ scanOf l from (drop from (now (bytes .entry))) ⌝ }
-{
-    let mut line = l;
-    let mut i = from;
-    while i < bytes.len() {
-        if bytes[i] == b'\n' {
-            return Scanned {
-                line,
-                at: i + 1,
-                ended: true,
-            };
-        }
-        line = feed(line, bytes[i]);
-        i += 1;
-    }
-    Scanned {
-        line,
-        at: i,
-        ended: false,
     }
 }

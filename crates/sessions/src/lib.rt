@@ -360,7 +360,7 @@ fn command_of(s: Session, l: Line) -> Command {
 
 // The answer to a line that has ended.
 fn answer(ram: &mut [u8], marks: &mut [u8], out: &mut [u8], s: Session, line: Line) -> Session {
-    let l = lines::finish(line);
+    let l = lines_scan::finish(line);
     let t = roomy(out, s);
     obey(ram, marks, out, t, l, command_of(t, l))
 }
@@ -369,7 +369,7 @@ fn answer(ram: &mut [u8], marks: &mut [u8], out: &mut [u8], s: Session, line: Li
 fn step(ram: &mut [u8], marks: &mut [u8], out: &mut [u8], t: Taken, input: &[u8]) -> Taken {
     let r = t.reading;
     let session = r.session;
-    let found = lines::scan(r.line, input, t.at);
+    let found = lines_scan::scan(r.line, input, t.at);
     let line = found.line;
     if found.ended {
         let next = answer(ram, marks, out, session, line);

@@ -1,7 +1,7 @@
-use Rattle.lines.proofs.Laws.{set-past}
+use Rattle.lines_scan.proofs.Laws.{set-past}
 use borrow.Author.Needs.{needs}
-use Rattle.lines.proofs.stored.Statement.{statement}
-use Rattle.lines.proofs.stored.Tie as tie
+use Rattle.lines_scan.proofs.stored.Statement.{statement}
+use Rattle.lines_scan.proofs.stored.Tie as tie
 
 mul-t : tie.Need-mul-t
 mul-t c = search needs

@@ -1,7 +1,7 @@
 use Rattle.lines.specs.Line.{grownOf}
 use borrow.Author.Needs.{needs}
-use Rattle.lines.proofs.grow.Statement.{statement}
-use Rattle.lines.proofs.grow.Tie as tie
+use Rattle.lines_scan.proofs.grow.Statement.{statement}
+use Rattle.lines_scan.proofs.grow.Tie as tie
 
 more-requires : tie.Need-more-requires
 more-requires c κs = search needs

@@ -1,7 +1,7 @@
 use Rattle.lines.specs.Line.{joinedOf}
 use borrow.Author.Needs.{needs}
-use Rattle.lines.proofs.join.Statement.{statement}
-use Rattle.lines.proofs.join.Tie as tie
+use Rattle.lines_scan.proofs.join.Statement.{statement}
+use Rattle.lines_scan.proofs.join.Tie as tie
 
 stored-requires : tie.Need-stored-requires
 stored-requires c κs = search needs

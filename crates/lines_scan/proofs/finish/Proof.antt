@@ -1,7 +1,7 @@
 use Rattle.lines.proofs.Laws.{ended-same, ended-joined}
 use borrow.Author.Needs.{needs}
-use Rattle.lines.proofs.finish.Statement.{statement}
-use Rattle.lines.proofs.finish.Tie as tie
+use Rattle.lines_scan.proofs.finish.Statement.{statement}
+use Rattle.lines_scan.proofs.finish.Tie as tie
 
 returns : tie.Need-returns
 returns c = search ended-same

@@ -1,11 +1,11 @@
-use Rattle.lines.proofs.Laws.{scan-more, scan-end, scan-out}
+use Rattle.lines_scan.proofs.Laws.{scan-more, scan-end, scan-out}
 use Rattle.lines.specs.Line.{scanOf}
 use borrow.Author.Needs.{needs}
 use lib.ListN.{length, drop}
 use mathlib.Core.Path.{_≡_, refl}
 use Prim.Native.Nat.{_-_, _≤_}
-use Rattle.lines.proofs.scan.Statement.{statement}
-use Rattle.lines.proofs.scan.Tie as tie
+use Rattle.lines_scan.proofs.scan.Statement.{statement}
+use Rattle.lines_scan.proofs.scan.Tie as tie
 
 abbrev Inv-loop : tie.InvT-loop
 Inv-loop bytes from line₀ i₀ line i = scanOf line i (drop i bytes) ≡ scanOf line₀ from (drop from bytes)

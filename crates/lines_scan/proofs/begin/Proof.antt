@@ -1,7 +1,7 @@
 use Rattle.lines.specs.Line.{begunOf}
 use mathlib.Core.Path.{refl}
-use Rattle.lines.proofs.begin.Statement.{statement}
-use Rattle.lines.proofs.begin.Tie as tie
+use Rattle.lines_scan.proofs.begin.Statement.{statement}
+use Rattle.lines_scan.proofs.begin.Tie as tie
 
 returns : tie.Need-returns
 unfolding begunOf

@@ -1,7 +1,7 @@
-use Rattle.lines.proofs.Laws.{feed-blank, feed-other}
+use Rattle.lines_scan.proofs.Laws.{feed-blank, feed-other}
 use borrow.Author.Needs.{needs}
-use Rattle.lines.proofs.feed.Statement.{statement}
-use Rattle.lines.proofs.feed.Tie as tie
+use Rattle.lines_scan.proofs.feed.Statement.{statement}
+use Rattle.lines_scan.proofs.feed.Tie as tie
 
 begin-requires : tie.Need-begin-requires
 begin-requires c κs = search needs
