@@ -4,6 +4,8 @@ ghost use Prim.Native.Nat.{_<_, _≤_};
 ghost use Rattle.text.specs.Text.{Prints};
 ghost use Rattle.answers.specs.Answer.{decimalPart, flagPart, hexPart, reportsPart, startOf, writeText, readText, movedOf, inwardText, resetText, refusedText, titleText};
 
+// ---- parts of a line, each after a blank
+
 pub fn decimal_part(out: &mut [u8], place: usize, n: u64) -> usize
     ensures { λ r. ⌜ Prints (decimalPart n) (now (out .entry)) place (now (out .exit)) r ⌝ }
 {
@@ -33,26 +35,14 @@ pub fn reports_part(out: &mut [u8], place: usize, irq: bool, doubt: bool) -> usi
     flag_part(out, at, doubt)
 }
 
+// ---- how a line begins
+
+// A command's letter and its number.
 pub fn start(out: &mut [u8], place: usize, letter: u8, number: u8) -> usize
     ensures { λ r. ⌜ Prints (startOf letter number) (now (out .entry)) place (now (out .exit)) r ⌝ }
 {
     let at = text::put_byte(out, place, letter);
     decimal_part(out, at, number as u64)
-}
-
-pub fn wrote(out: &mut [u8], place: usize, number: u8) -> usize
-    ensures { λ r. ⌜ Prints (writeText number) (now (out .entry)) place (now (out .exit)) r ⌝ }
-{
-    let at = start(out, place, b'w', number);
-    text::put_byte(out, at, b'\n')
-}
-
-pub fn was_read(out: &mut [u8], place: usize, number: u8, value: u16) -> usize
-    ensures { λ r. ⌜ Prints (readText number value) (now (out .entry)) place (now (out .exit)) r ⌝ }
-{
-    let a = start(out, place, b'r', number);
-    let b = hex_part(out, a, value as u32, 4);
-    text::put_byte(out, b, b'\n')
 }
 
 pub fn moved(
@@ -69,6 +59,23 @@ pub fn moved(
     let a = start(out, place, letter, number);
     let b = decimal_part(out, a, count as u64);
     reports_part(out, b, irq, doubt)
+}
+
+// ---- lines
+
+pub fn wrote(out: &mut [u8], place: usize, number: u8) -> usize
+    ensures { λ r. ⌜ Prints (writeText number) (now (out .entry)) place (now (out .exit)) r ⌝ }
+{
+    let at = start(out, place, b'w', number);
+    text::put_byte(out, at, b'\n')
+}
+
+pub fn was_read(out: &mut [u8], place: usize, number: u8, value: u16) -> usize
+    ensures { λ r. ⌜ Prints (readText number value) (now (out .entry)) place (now (out .exit)) r ⌝ }
+{
+    let a = start(out, place, b'r', number);
+    let b = hex_part(out, a, value as u32, 4);
+    text::put_byte(out, b, b'\n')
 }
 
 pub fn moved_in(

@@ -1,4 +1,4 @@
-// The lines that show halfwords, bytes and marks. Each function answers the next place.
+// The lines that show halfwords, bytes and marks, put into lent bytes at a place. Each function answers the next place.
 ghost use mathlib.Core.Path.{_≡_};
 ghost use Prim.Native.Nat.{_+_, _<_, _/_, _^_};
 ghost use lib.ListN.{getD};

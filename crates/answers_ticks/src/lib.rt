@@ -1,4 +1,4 @@
-// The lines that answer ticks. Each function answers the next place.
+// The lines that answer ticks, put into lent bytes at a place. Each function answers the next place.
 ghost use mathlib.Core.Path.{_≡_};
 ghost use Rattle.text.specs.Text.{Prints};
 ghost use Rattle.answers.specs.Answer.{signedPart, pairPart, hexPart, doubtEnd, endPart, tickStart, tickText, bitsOf, floatsPart, floatsText, benchText};
@@ -56,7 +56,7 @@ pub fn ticked(
     end_part(out, b, irq, doubt, after)
 }
 
-// The bits of a float that is a number.
+// The bits of a float that is a number, 0 for one that is none.
 fn bits(x: f32) -> u32
     ensures { λ r. ⌜ r ≡ bitsOf x ⌝ }
 {

@@ -28,6 +28,8 @@ wordOf l = fieldAt l 0 .word
 abbrev pub given : ℕ → Line → Bool
 given n l = eqb (l .count) (n + 1)
 
+-- ---- numbers of fields; of one that was read and passed its test, the remainder is the number itself
+
 abbrev pub halfword : Field → ℕ
 halfword f = f .value % 0x10000
 
@@ -38,7 +40,6 @@ sampleOf f = signed 16 (halfword f)
 abbrev pub addressOf : Field → ℕ
 addressOf f = f .value % 0x100000000
 
--- a count, well below the limit to which it is kept
 abbrev pub countOf : Field → ℕ
 countOf f = f .count % 0x100000
 
@@ -55,7 +56,7 @@ writeOf l =
 unfoldable pub readOf : Line → Command
 readOf l = cond (given 1 l && isHex 1 4 (fieldAt l 1)) (Read (halfword (fieldAt l 1))) Bad
 
--- "s V ..", "one V or more"; of more than 33, 33 are as good: they are refused as well
+-- "s V ..", "one V or more"; more than 33 count as 33: the call refuses either
 unfoldable pub inwardOf : Line → Command
 inwardOf l = cond (leb 2 (l .count) && (leb (l .count) 34 && l .halfwords)) (Inward (l .count - 1)) Bad
 
@@ -68,7 +69,7 @@ valuesOf fs (suc n) = set (valuesOf fs n) n (halfword (fieldIn fs (suc n)))
 unfoldable pub outwardOf : Line → Command
 outwardOf l = cond (given 1 l && isCount 0 64 (fieldAt l 1)) (Outward (countOf (fieldAt l 1))) Bad
 
--- "t N" of bench, "to 65535", CD zero
+-- "t N" of bench, and "t N" and "f N" of replay with no samples; N "to 65535", CD zero
 unfoldable pub plainOf : Bool → Line → Command
 plainOf floats l = cond (given 1 l && isCount 0 65535 (fieldAt l 1)) (Tick floats (countOf (fieldAt l 1)) (pos 0) (pos 0)) Bad
 

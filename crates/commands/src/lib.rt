@@ -1,10 +1,11 @@
-// The command that a line gives: the lines of the core's calls.
+// The command that a line gives: the lines of the core's calls. Of a field that was read and
+// passed its test, the remainder is the number itself.
 ghost use mathlib.Core.Path.{_≡_};
 ghost use Rattle.commands.specs.Command.{writeOf, readOf, inwardOf, valuesOf, outwardOf, plainOf, tickOf, viewOf, resetOf};
 use lines::Line;
 
 pub enum Command {
-    // A line that is none.
+    // A line that is no command.
     Bad,
     // A blank line or a comment.
     Quiet,
@@ -85,7 +86,7 @@ pub fn inward_line(l: Line) -> Command
     Command::Bad
 }
 
-// The halfwords of such a line, of which there are as many as its command says.
+// The halfwords of such a line: as many of the 33 as its command says.
 pub fn values(l: Line) -> [u16; 33]
     ensures { λ r. ⌜ r ≡ valuesOf (l .fields) 33 ⌝ }
 {
@@ -111,6 +112,7 @@ pub fn outward_line(l: Line) -> Command
     Command::Bad
 }
 
+// Ticks with no CD samples.
 pub fn plain_line(floats: bool, l: Line) -> Command
     ensures { λ r. ⌜ r ≡ plainOf floats l ⌝ }
 {

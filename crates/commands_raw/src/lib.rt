@@ -1,4 +1,5 @@
-// The command that a line gives: the lines on raw sound RAM and marks.
+// The command that a line gives: the lines on raw sound RAM and marks. Of a field that was read
+// and passed its test, the remainder is the number itself.
 ghost use mathlib.Core.Path.{_≡_};
 ghost use Prim.Native.Nat.{_≤_};
 ghost use Rattle.commands.specs.Command.{ranged as rangedOf, ramOf, marksOf, fillOf};

@@ -30,6 +30,7 @@ pub fn bench(l: Line) -> Command
     Command::Bad
 }
 
+// The lines ram, marks and fill.
 fn raw(size: u64, l: Line) -> Command
     ensures { λ r. ⌜ r ≡ rawOf size l ⌝ }
 {
@@ -46,6 +47,7 @@ fn raw(size: u64, l: Line) -> Command
     Command::Bad
 }
 
+// The lines t, f, v and reset, and those after them.
 fn run(size: u64, l: Line) -> Command
     ensures { λ r. ⌜ r ≡ runOf size l ⌝ }
 {
@@ -65,6 +67,7 @@ fn run(size: u64, l: Line) -> Command
     raw(size, l)
 }
 
+// The lines w, r, s and o, and those after them.
 fn data(size: u64, l: Line) -> Command
     ensures { λ r. ⌜ r ≡ dataOf size l ⌝ }
 {

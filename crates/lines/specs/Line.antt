@@ -9,7 +9,7 @@ use Rattle.lines.specs.declared.Field.{Field}
 use Rattle.lines.specs.declared.Line.{Line}
 use Rattle.lines.specs.declared.Scanned.{Scanned}
 
--- ---- of a field, whatever its length: each number up to a limit that no field of a command reaches
+-- ---- of a field, whatever its length: each number up to a limit beyond which no field of a command goes
 
 abbrev pub lengthLimit : ℕ
 lengthLimit = 9
@@ -73,7 +73,7 @@ abbrev pub every : (Field → Bool) → List Field → Bool
 every p [] = true
 every p (f ∷ fs) = p f && every p fs
 
--- a line of which the bytes so far have begun the fields fs and the running one
+-- a line in which the fields fs have ended and one runs
 abbrev pub lineWith : Bool → Bool → List Field → Field → Line
 lineWith begun comment fs running =
     record {

@@ -1,10 +1,11 @@
-// What is kept of a line of text that is read byte by byte. A line may be of any length: what is kept is bounded.
+// What is kept of a line of text and of each field, and the tests of a field. A line may be of any length: what is kept is bounded.
 ghost use mathlib.Core.Path.{_≡_};
 ghost use Prim.Native.Nat.{_+_, _*_, _<_, _≤_, min};
 ghost use Rattle.lines.specs.Fields.{digitOf};
 ghost use Rattle.lines.specs.Line.{noneOf, moreOf, isHex, isCount, freshOf};
 
-// A field: its length, its bytes as one number, and its value if its bytes are digits, each up to a limit.
+// A field: its length, its bytes as one number, whether they are hex digits and their value, whether they are decimal digits and the
+// count. Each number is kept up to a limit.
 pub struct Field {
     pub length: u64,
     pub word: u64,
@@ -15,7 +16,7 @@ pub struct Field {
 }
 
 // A line so far: whether it has a byte, whether the first is #, the field that runs, the first 34 that have ended, how many
-// have, and whether all after the first are halfwords.
+// have, up to 34, and whether all after the first are halfwords.
 pub struct Line {
     pub begun: bool,
     pub comment: bool,
@@ -32,6 +33,7 @@ pub struct Scanned {
     pub ended: bool,
 }
 
+// What a hex digit counts, 16 for a byte that is none.
 fn digit(b: u8) -> u64
     ensures { λ r. ⌜ r ≡ digitOf b ⌝ }
 {
@@ -63,6 +65,7 @@ fn longer(n: u64, base: u64, d: u64, limit: u64) -> u64
 }
 
 impl Field {
+    // A field that has no byte yet.
     pub fn none() -> Self
         ensures { λ r. ⌜ r ≡ noneOf ⌝ }
     {

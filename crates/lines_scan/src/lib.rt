@@ -1,4 +1,4 @@
-// A line that is read byte by byte.
+// A line as it is read byte by byte, up to its end.
 ghost use mathlib.Core.Path.{_≡_};
 ghost use Prim.Native.Nat.{_+_, min};
 ghost use lib.ListN.{drop, set};
@@ -14,6 +14,7 @@ fn blank(b: u8) -> bool
     (b == b' ') | ((b == b'\t') | (b == b'\r'))
 }
 
+// The fields with one more at an index; past the 34th none is kept.
 fn stored(fields: [Field; 34], n: usize, f: Field) -> [Field; 34]
     ensures { λ r. ⌜ r ≡ set fields n f ⌝ }
 {

@@ -41,7 +41,7 @@ digitsOf base n (suc k) = glyphOf (n / base ^ k % base) ∷ digitsOf base n k
 abbrev pub hexText : ℕ → ℕ → List ℕ
 hexText n k = digitsOf 16 n k
 
--- without the zeros before the first other digit, of which the last digit is kept
+-- without the zeros at the front; the last digit stays, whatever it is
 unfoldable pub trimmed : List ℕ → List ℕ
 trimmed [] = []
 trimmed (d ∷ []) = d ∷ []
