@@ -15,6 +15,7 @@ use borrow.Author.Tests.{leb-true}
 use Rattle.fixed.specs.Signed.{signed}
 use Rattle.fixed.proofs.Number.{res, is}
 use Rattle.fixed.proofs.TwosComplement.{signed-in}
+use Rattle.fixed.proofs.Bools.{and-first}
 use Rattle.lines.specs.declared.Field.{Field}
 use Rattle.commands.specs.Command.{halfword, fieldIn, valuesOf}
 use Rattle.commands.specs.declared.Command.{Command}
@@ -50,14 +51,6 @@ module _ (p q r s : Bool) {q′ r′ s′ : Bool} (f : q′ ≡ q) (g : r′ ≡
   pass-3 x e k = rw (← f, ← g, ← h, e) k
 
 -- ---- numbers
-
-pub and-first : (a b : Bool) → (a && b) ≡ true → a ≡ true
-and-first true b e = refl
-and-first false b e = e
-
-pub and-rest : (a b : Bool) → (a && b) ≡ true → b ≡ true
-and-rest true b e = e
-and-rest false b e = absurd (false≢true e)
 
 pub one-or-more : (n : ℕ) (q : Bool) → (leb 2 n && q) ≡ true → 1 ≤ n
 one-or-more n q e = let h = leb-true 2 n (and-first (leb 2 n) q e) in omega arith

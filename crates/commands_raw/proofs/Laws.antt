@@ -8,9 +8,9 @@ use lib.Dec.{eqb, leb, lit<}
 use mir.Syntax.{w64}
 use mir.Val.{Fits}
 use borrow.Author.Tests.{leb-true}
+use Rattle.fixed.proofs.Bools.{and-first, and-rest}
 use Rattle.lines.specs.Line.{isCount}
 use Rattle.lines.specs.declared.Field.{Field}
-use Rattle.commands.proofs.Laws.{and-first, and-rest}
 
 count-most : (least most : ℕ) (f : Field) → isCount least most f ≡ true → f .count ≤ most
 unfolding isCount

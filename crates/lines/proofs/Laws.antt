@@ -9,21 +9,13 @@ use lib.Dec.{leb, ltb, lit<}
 use mir.Syntax.{w64}
 use mir.Val.{Fits}
 use borrow.Author.Tests.{leb-true, eq-eqb, ne-eqb}
+use Rattle.fixed.proofs.Bools.{and-first, and-rest}
 use Rattle.lines.specs.Fields.{digitOf}
 use Rattle.lines.specs.Line.{lengthLimit, wordLimit, valueLimit, countLimit, moreOf, joinedOf, endedOf}
 use Rattle.lines.specs.declared.Field.{Field}
 use Rattle.lines.specs.declared.Line.{Line}
 
 -- ---- digits
-
-and-first : (a b : Bool) → (a && b) ≡ true → a ≡ true
-and-first true b e = refl
-and-first false b e = e
-
-and-rest : (a b : Bool) → (a && b) ≡ true → b ≡ true
-and-rest true b e = e
-and-rest false true e = refl
-and-rest false false e = e
 
 between : (l h b : ℕ) → (leb l b && leb b h) ≡ true → (l ≤ b) × (b ≤ h)
 between l h b e = (leb-true l b (and-first (leb l b) (leb b h) e), leb-true b h (and-rest (leb l b) (leb b h) e))

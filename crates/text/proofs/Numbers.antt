@@ -18,18 +18,11 @@ use Rattle.fixed.specs.Range.{up, dn, In}
 use Rattle.fixed.proofs.Parts.{of-fits}
 use Rattle.fixed.proofs.TwosComplement.{signed-bits, signed-low}
 use Rattle.fixed.proofs.Table.{below, below-at}
+use Rattle.fixed.proofs.Bools.{and-first, and-rest}
 use Rattle.text.specs.Text.{Prints, glyphOf, digitsOf, trimmed, decimalText, signedText}
 use Rattle.text.proofs.Laws.{Left, left-all, left-more, left-none, prints-then}
 
 -- ---- tests
-
-and-first : (a b : Bool) → (a && b) ≡ true → a ≡ true
-and-first true b e = refl
-and-first false b e = e
-
-and-rest : (a b : Bool) → (a && b) ≡ true → b ≡ true
-and-rest true b e = e
-and-rest false b e = absurd (false≢true e)
 
 -- ---- digits
 
