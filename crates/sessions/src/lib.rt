@@ -510,21 +510,43 @@ fn is_text(a: &[u8], b: &[u8]) -> bool {
     true
 }
 
-// L is the program's argument.
-pub fn replay() {
+// The L that the program's argument asks, or 0.
+fn size_asked() -> u32 {
     let mut text = [0u8; 8];
     let n = os::arg(1, &mut text);
-    let one = os::arg_count() == 2;
-    if one & is_text(&text[..n], b"65536") {
-        let mut ram = [0u8; 65536];
-        let mut marks = [0u8; 4096];
-        replay_on(&mut ram, &mut marks, 65536);
+    if os::arg_count() != 2 {
+        return 0;
+    }
+    if is_text(&text[..n], b"65536") {
+        return 65536;
+    }
+    if is_text(&text[..n], b"524288") {
+        return 524288;
+    }
+    0
+}
+
+fn replay_small() {
+    let mut ram = [0u8; 65536];
+    let mut marks = [0u8; 4096];
+    replay_on(&mut ram, &mut marks, 65536);
+}
+
+fn replay_large() {
+    let mut ram = [0u8; 524288];
+    let mut marks = [0u8; 32768];
+    replay_on(&mut ram, &mut marks, 524288);
+}
+
+// L is the program's argument.
+pub fn replay() {
+    let size = size_asked();
+    if size == 65536 {
+        replay_small();
         return;
     }
-    if one & is_text(&text[..n], b"524288") {
-        let mut ram = [0u8; 524288];
-        let mut marks = [0u8; 32768];
-        replay_on(&mut ram, &mut marks, 524288);
+    if size == 524288 {
+        replay_large();
         return;
     }
     io::write_all(STDERR_FILENO, b"usage: replay 65536 or replay 524288\n");
