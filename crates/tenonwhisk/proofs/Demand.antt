@@ -6,7 +6,9 @@ use Prim.Native.Nat.{ℕ, zero, suc, _/_}
 use native.Mathlib.Omega.{arith}
 use borrow.Author.Tests.{ne-eqb}
 use lib.ListN.{length}
+use lib.Dec.{eqb}
 use lib.IntN.{ℤ}
+use lib.Ieee.{Float}
 use Rattle.soundram.specs.Memory.{marked}
 use Rattle.soundram.specs.Program.{anyUnmarked}
 use Rattle.soundram.specs.TwoRuns.{AgreeAt}
@@ -14,11 +16,12 @@ use Rattle.soundram.specs.Calls.{Outcome, log, Indistinct, both-end, both-sure,
 use Rattle.chip.specs.declared.State.{State}
 use Rattle.image.specs.Image.{stateOf, isImage}
 use Rattle.runs.specs.Run.{Run}
-use Rattle.spu.specs.Step.{Call, Answer, chip, outcomeOf, firstOf, lentTests}
+use Rattle.stereo.specs.Float.{floatOf}
+use Rattle.spu.specs.Step.{Call, Answer, chip, outcomeOf}
 use Rattle.spu.proofs.Demand as spu
-use Rattle.host.specs.Run.{runTests, callsOf, gathered, startOf, numberedOf, ranOf}
+use Rattle.host.specs.Run.{callsOf, gathered, startOf, numberedOf, ranOf, ranFloatsOf, Floats, Outcome as Ran}
 use Rattle.host.proofs.Log as host
-use Rattle.tenonwhisk.specs.Kept.{keptIn, keptNot, keptOf, Keeps, runIn, keptRunOf}
+use Rattle.tenonwhisk.specs.Kept.{keptIn, keptNot, keptOf, Keeps, runIn, keptRunOf, RunFloats, keptFloatsOf}
 use Rattle.tenonwhisk.specs.Calls.{Gave, none, next, doubtIn, standing}
 
 -- ---- of an image: the core's log
@@ -104,21 +107,48 @@ demand-3 cs b r t m {os} {ps} g h clear len agree = by (isImage b) refl clear
 
 -- ---- a run of ticks
 
--- an accepted run gives and leaves what the log of its ticks has: in a list it stands for those calls
-pub run-is-log : (b r m : List ℕ) (cd out : List ℤ) → keptRunOf b r m cd out .ran .number ≡ 0
-    → keptRunOf b r m cd out
-    ≡ runIn b (record { number = 0; count = length out / 2; run = gathered (log chip (callsOf cd (length out / 2)) (stateOf b) r m) 0 (startOf (stateOf b) r m out (length out / 2)) })
-unfolding keptRunOf ranOf numberedOf
-run-is-log b r m cd out z = by (isImage b) (firstOf (lentTests (stateOf b) (length r) (length m) (runTests (length cd) (length out)))) z
-  where
-    k : ℕ
-    k = length out / 2
+module _ (b r m : List ℕ) (cd out : List ℤ) where
+  abbrev s : State
+  s = stateOf b
 
-    s : State
-    s = stateOf b
+  abbrev k : ℕ
+  k = length out / 2
 
-    by : (v : Bool) (n : ℕ) → cond v (numberedOf n s r m cd out) (numberedOf 2 s r m cd out) .number ≡ 0
-        → runIn b (cond v (numberedOf n s r m cd out) (numberedOf 2 s r m cd out)) ≡ runIn b (record { number = 0; count = k; run = gathered (log chip (callsOf cd k) s r m) 0 (startOf s r m out k) })
-    by true zero e = ap (λ (f : Run). runIn b (record { number = 0; count = k; run = f })) (host.run-is-log cd k (startOf s r m out k))
-    by true (suc n) e = let q = rw (ne-eqb (suc n) 0 (λ w. absurd (omega arith))) at e in absurd (omega arith)
-    by false n e = absurd (omega arith)
+  -- what the log of its ticks has
+  abbrev pub logged : Ran
+  logged = record { number = 0; count = k; run = gathered (log chip (callsOf cd k) s r m) 0 (startOf s r m out k) }
+
+  accepted : numberedOf 0 s r m cd out ≡ logged
+  unfolding numberedOf
+  accepted = ap (λ (f : Run). record { number = 0; count = k; run = f }) (host.run-is-log cd k (startOf s r m out k))
+
+  zero-only : (n : ℕ) → numberedOf n s r m cd out .number ≡ 0 → n ≡ 0
+  unfolding numberedOf
+  zero-only zero e = refl
+  zero-only (suc n) e = let q = rw (ne-eqb (suc n) 0 (λ w. absurd (omega arith))) at e in absurd (omega arith)
+
+  -- an accepted run gives and leaves that: in a list it stands for those calls
+  pub run-is-log : keptRunOf b r m cd out .ran .number ≡ 0 → keptRunOf b r m cd out ≡ runIn b logged
+  unfolding keptRunOf ranOf
+  run-is-log z = by (isImage b) _ z
+    where
+      by : (v : Bool) (n : ℕ) → cond v (numberedOf n s r m cd out) (numberedOf 2 s r m cd out) .number ≡ 0
+          → runIn b (cond v (numberedOf n s r m cd out) (numberedOf 2 s r m cd out)) ≡ runIn b logged
+      by true n e = rw (zero-only n e, accepted)
+      by false n e = let q = zero-only 2 e in absurd (omega arith)
+
+  -- as floats: the same, and each sample as a float
+  pub floats-is-log : (fs : List Float) → keptFloatsOf b r m cd out fs .run .ran .number ≡ 0
+      → keptFloatsOf b r m cd out fs ≡ record { run = runIn b logged; floats = map floatOf (logged .run .out) }
+  unfolding keptFloatsOf ranFloatsOf
+  floats-is-log fs z = by (isImage b) _ z
+    where
+      given : Bool → ℕ → Floats
+      given v n =
+          cond v (record { ran = numberedOf n s r m cd out; floats = cond (eqb n 0) (map floatOf (numberedOf n s r m cd out .run .out)) fs })
+          (record { ran = numberedOf 2 s r m cd out; floats = fs })
+
+      by : (v : Bool) (n : ℕ) → given v n .ran .number ≡ 0
+          → _≡_ {A = RunFloats} (record { run = runIn b (given v n .ran); floats = given v n .floats }) (record { run = runIn b logged; floats = map floatOf (logged .run .out) })
+      by true n e = rw (zero-only n e, accepted)
+      by false n e = let q = zero-only 2 e in absurd (omega arith)
