@@ -6,11 +6,11 @@ use Prim.Native.Nat.{ℕ, zero, suc, _+_, _-_, _*_, _/_, _%_, _≤_, _<_}
 use native.Mathlib.Decide.{ℕ-discrete}
 use native.Mathlib.Numerals.{add-one}
 use native.Mathlib.Omega.{arith}
-use lib.Dec.{eqb, T, eqb→eq}
+use lib.Dec.{eqb, eqb→eq}
 use lib.ListN.{length, take, set, getD}
 use lib.Seq.{take-suc, take-all, getD-set-same, getD-set-other}
 use borrow.Author.Count.{below-more}
-use borrow.Author.Tests.{eq-eqb, ne-eqb, eqb-true}
+use borrow.Author.Tests.{eq-eqb, ne-eqb}
 use Rattle.fixed.specs.Bits.{bit, field}
 use Rattle.fixed.proofs.Table.{below-at}
 use Rattle.soundram.specs.declared.ByteAddress.{ByteAddress}

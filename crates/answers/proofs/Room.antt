@@ -1,5 +1,4 @@
 -- No answer is longer than 512 bytes, so none is cut where that much room is left. Assumes nothing.
-use mathlib.Core.Path.{_≡_, refl}
 use mathlib.Core.Bool.{Bool}
 use mathlib.Core.List.{List, [], _∷_, _++_}
 use Prim.Native.Nat.{ℕ, zero, suc, _+_, _*_, _≤_}
@@ -10,7 +9,7 @@ use lib.Ieee.{Float}
 use Rattle.soundram.specs.Memory.{marked}
 use Rattle.text.specs.Text.{hexText, decimalText, flagText}
 use Rattle.text.proofs.Lengths.{digits-length, decimal-length, signed-length, flag-length}
-use Rattle.answers.specs.Answer.{decimalPart, signedPart, pairPart, flagPart, hexPart, reportsPart, doubtEnd, endPart, startOf, writeText, readText, movedOf, inwardText, halfwordsFrom, halfwordsEnd, outwardText, tickStart, tickText, bitsOf, floatsPart, floatsText, bytesFrom, bytesEnd, viewText, resetText, ramText, marksFrom, marksEnd, marksText, benchText, refusedText, titleText}
+use Rattle.answers.specs.Answer.{decimalPart, signedPart, pairPart, flagPart, hexPart, reportsPart, doubtEnd, endPart, startOf, writeText, readText, movedOf, inwardText, halfwordsFrom, halfwordsEnd, outwardText, tickStart, tickText, bitsOf, floatsPart, floatsText, bytesFrom, bytesEnd, viewText, resetText, ramText, marksFrom, marksEnd, marksText, benchText, refusedText}
 
 -- a text of at most n bytes
 pub record Short (n : ℕ) (t : List ℕ) : Type 0 where

@@ -1,13 +1,13 @@
 -- What is kept of a line that is read byte by byte is what its bytes say: `summary`. Assumes nothing.
 use mathlib.Core.Path.{_≡_, refl, sym, ap, _∙_}
-use mathlib.Core.Bool.{Bool, true, false, cond, not, _&&_, _||_, and-true, and-assoc, or-false}
+use mathlib.Core.Bool.{Bool, true, false, cond, _&&_, _||_, and-true, and-assoc, or-false}
 use mathlib.Core.List.{List, [], _∷_, _++_, map, map-append, append-assoc, append-nil}
 use Prim.Native.Nat.{ℕ, zero, suc, _+_, _*_, min}
 use native.Mathlib.Omega.{arith}
 use lib.Dec.{eqb, ltb, eqb·suc-zero}
-use lib.ListN.{length, getD, drop, set, length-append}
+use lib.ListN.{length, drop, set, length-append}
 use borrow.Author.Tests.{ne-eqb}
-use Rattle.lines.specs.Fields.{blank, flush, fieldsFrom, fieldsOf, digitOf, digitsOnly, numberFrom, packedFrom}
+use Rattle.lines.specs.Fields.{blank, flush, fieldsFrom, digitOf, digitsOnly, numberFrom, packedFrom}
 use Rattle.lines.specs.Line.{lengthLimit, wordLimit, valueLimit, countLimit, fieldOf, noneOf, moreOf, isHex, kept, firstFields, every, lineWith, summaryOf, freshOf, joinedOf, endedOf, begunOf, grownOf, feedOf, fedOf}
 use Rattle.lines.specs.declared.Field.{Field}
 use Rattle.lines.specs.declared.Line.{Line}

@@ -1,9 +1,8 @@
 -- A line's fields, over lists of bytes. Assumes nothing.
-use mathlib.Core.Bool.{Bool, true, false, cond, _&&_, _||_}
+use mathlib.Core.Bool.{Bool, true, cond, _&&_, _||_}
 use mathlib.Core.List.{List, [], _∷_, _++_}
 use Prim.Native.Nat.{ℕ, _+_, _-_, _*_}
 use lib.Dec.{eqb, leb, ltb}
-use lib.ListN.{length}
 
 -- "A CR counts as a blank": space, tab, CR
 unfoldable pub blank : ℕ → Bool

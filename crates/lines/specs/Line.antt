@@ -1,7 +1,7 @@
 -- What is kept of a field and of a line, and how a byte more changes it. Assumes nothing.
 use mathlib.Core.Bool.{Bool, true, false, cond, not, _&&_, _||_}
 use mathlib.Core.List.{List, [], _∷_, map}
-use Prim.Native.Nat.{ℕ, zero, suc, _+_, _*_, _^_, min}
+use Prim.Native.Nat.{ℕ, zero, suc, _+_, _*_, min}
 use lib.Dec.{eqb, leb, ltb}
 use lib.ListN.{length, getD, drop, replicate, set}
 use Rattle.lines.specs.Fields.{blank, digitOf, digitsOnly, numberFrom, packed, fieldsOf}

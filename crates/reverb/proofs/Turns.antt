@@ -1,6 +1,6 @@
 -- The programs of a turn, from what the code's parts do. Assumes nothing.
 use mathlib.Core.Path.{_≡_, refl, _∙_, ap, ap₂, subst}
-use mathlib.Core.Bool.{Bool, true, false, _||_, _&&_, not}
+use mathlib.Core.Bool.{Bool, true, false, _||_, not}
 use mathlib.Core.List.{List, [], _∷_}
 use Prim.Native.Nat.{ℕ, zero, suc, _+_, _-_, _%_, _≤_, _<_}
 use native.Mathlib.Omega.{arith}
@@ -17,8 +17,7 @@ use Rattle.fixed.proofs.Number.{Num, res-in}
 use Rattle.soundram.specs.declared.ByteAddress.{ByteAddress}
 use Rattle.soundram.specs.declared.Reader.{Reader}
 use Rattle.soundram.specs.Address.{halfwordOf}
-use Rattle.soundram.specs.declared.Watch.{Watch}
-use Rattle.soundram.specs.Memory.{marked, reading, latched}
+use Rattle.soundram.specs.Memory.{reading}
 use Rattle.soundram.specs.Program.{Prog, Mem, memOf, afterRead, Result, run, Does, bind, get, put, repeat}
 use Rattle.soundram.proofs.Programs.{does-done, does-give, does-bind, does-yes, does-no}
 use Rattle.reverb.specs.declared.Area.{Area}

@@ -1,13 +1,13 @@
 -- Laws of text put into lent bytes. Assumes nothing.
 use mathlib.Core.Path.{_≡_, refl, sym, ap, _∙_}
-use mathlib.Core.Bool.{Bool, true, false, cond}
+use mathlib.Core.Bool.{Bool, true, false}
 use mathlib.Core.List.{List, [], _∷_, _++_}
-use Prim.Native.Nat.{ℕ, zero, suc, _+_, _≤_, _<_}
+use Prim.Native.Nat.{ℕ, suc, _+_, _≤_, _<_}
 use native.Mathlib.Numerals.{add-one}
-use native.Mathlib.Nat.{add-suc, suc-add, add-zero, add-assoc}
+use native.Mathlib.Nat.{add-suc, suc-add, add-zero}
 use native.Mathlib.Omega.{arith}
 use borrow.Author.Tests.{lt-ltb, le-ltb}
-use lib.ListN.{length, take, drop, getD, set, length-set, length-append}
+use lib.ListN.{length, take, drop, getD, set, length-set}
 use lib.Seq.{drop-cons, drop-length, sets, sets-eq}
 use Rattle.text.specs.Text.{Page, page, putOf, printedOf, Prints, flagText}
 

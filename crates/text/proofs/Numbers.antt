@@ -1,26 +1,24 @@
 -- Laws of numbers as text. Assumes nothing.
-use mathlib.Core.Path.{_≡_, refl, sym, ap, ap₂, _∙_}
-use mathlib.Core.Bool.{Bool, true, false, cond, _&&_, true≢false, false≢true}
-use mathlib.Core.List.{List, [], _∷_, _++_}
+use mathlib.Core.Path.{_≡_, refl, ap, _∙_}
+use mathlib.Core.Bool.{Bool, true, false, _&&_, true≢false}
+use mathlib.Core.List.{List, [], _∷_}
 use Prim.Native.Nat.{ℕ, zero, suc, _+_, _-_, _*_, _/_, _%_, _^_, _≤_, _<_}
-use native.Mathlib.Numerals.{sub-one, add-one}
 use native.Mathlib.Nat.{pow-suc, pow-zero, mul-div-cancel, div-eq-of-lt, mod-lt, mul-pos}
 use native.Mathlib.Omega.{arith}
 use native.Mathlib.Decide.{decLt}
 use borrow.Author.Tests.{lt-ltb, le-ltb, ltb-true, eqb-true, ne-eqb}
-use lib.Dec.{T, eqb, ltb, eqb→eq}
-use lib.IntN.{ℤ, pos, negsuc}
+use lib.Dec.{eqb, ltb, eqb→eq}
+use lib.IntN.{ℤ}
 use mir.Syntax.{w16}
 use mir.Val.{SFits, toZ, ofZ}
 use mir.Facts.{toZ-ofZ}
 use Rattle.fixed.specs.Signed.{signed, bitsOf}
-use Rattle.fixed.specs.Range.{up, dn, In}
 use Rattle.fixed.proofs.Parts.{of-fits}
 use Rattle.fixed.proofs.TwosComplement.{signed-bits, signed-low}
-use Rattle.fixed.proofs.Table.{below, below-at}
+use Rattle.fixed.proofs.Table.{below-at}
 use Rattle.fixed.proofs.Bools.{and-first, and-rest}
 use Rattle.text.specs.Text.{Prints, glyphOf, digitsOf, trimmed, decimalText, signedText}
-use Rattle.text.proofs.Laws.{Left, left-all, left-more, left-none, prints-then}
+use Rattle.text.proofs.Laws.{Left, left-more, left-none, prints-then}
 
 -- ---- tests
 

@@ -4,7 +4,7 @@ use Rattle.text.proofs.Laws.{Left}
 use borrow.Author.Needs.{needs}
 use lib.ListN.{length}
 use mathlib.Core.Path.{_≡_}
-use Prim.Native.Nat.{_+_, _-_, _≤_}
+use Prim.Native.Nat.{_-_, _≤_}
 use Rattle.answers_memory.proofs.halfwords.Statement.{statement}
 use Rattle.answers_memory.proofs.halfwords.Tie as tie
 

@@ -1,5 +1,4 @@
 use Rattle.answers_ticks.proofs.Laws.{pair-of}
-use Rattle.text.proofs.Laws.{prints-then}
 use Rattle.answers.specs.Answer.{pairPart}
 use borrow.Author.Needs.{needs}
 use Rattle.answers_ticks.proofs.pair_part.Statement.{statement}

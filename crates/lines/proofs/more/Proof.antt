@@ -1,5 +1,4 @@
 use Rattle.lines.proofs.Laws.{digit-small, more-parts}
-use Rattle.lines.specs.Line.{moreOf}
 use borrow.Author.Needs.{needs}
 use Rattle.lines.proofs.more.Statement.{statement}
 use Rattle.lines.proofs.more.Tie as tie

@@ -3,7 +3,7 @@ use Rattle.lines.specs.Line.{scanOf}
 use borrow.Author.Needs.{needs}
 use lib.ListN.{length, drop}
 use mathlib.Core.Path.{_≡_, refl}
-use Prim.Native.Nat.{_-_, _≤_}
+use Prim.Native.Nat.{_-_}
 use Rattle.lines_scan.proofs.scan.Statement.{statement}
 use Rattle.lines_scan.proofs.scan.Tie as tie
 

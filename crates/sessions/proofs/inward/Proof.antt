@@ -1,5 +1,4 @@
 use Rattle.sessions.proofs.Laws.{part-of}
-use Rattle.sessions.proofs.Laws.{part-length}
 use borrow.Author.Needs.{needs}
 use Rattle.sessions.proofs.inward.Statement.{statement}
 use Rattle.sessions.proofs.inward.Tie as tie

@@ -2,7 +2,7 @@ use Rattle.text.proofs.Numbers.{powerAt, power-of, power-positive, powe
 use Rattle.text.specs.Text.{digitsOf, trimmed, decimalText}
 use borrow.Author.Needs.{needs}
 use mathlib.Core.Path.{_≡_}
-use Prim.Native.Nat.{_≤_, _<_, _-_}
+use Prim.Native.Nat.{_<_, _-_}
 use Rattle.text.proofs.put_decimal.Statement.{statement}
 use Rattle.text.proofs.put_decimal.Tie as tie
 

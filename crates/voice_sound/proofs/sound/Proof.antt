@@ -1,6 +1,6 @@
 use borrow.Author.Needs.{needs}
 use mir.Syntax.{w16}
-use Rattle.fixed.proofs.Number.{passed, ok, is}
+use Rattle.fixed.proofs.Number.{ok, is}
 use Rattle.voice_sound.proofs.Sounds.{sound-noise, sound-samples}
 use Rattle.voice_sound.proofs.sound.Statement.{statement}
 use Rattle.voice_sound.proofs.sound.Tie as tie

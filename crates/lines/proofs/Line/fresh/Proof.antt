@@ -1,5 +1,4 @@
 use Rattle.lines.specs.Line.{freshOf}
-use mathlib.Core.Path.{refl}
 use borrow.Author.Needs.{needs}
 use Rattle.lines.proofs.Line.fresh.Statement.{statement}
 use Rattle.lines.proofs.Line.fresh.Tie as tie
