@@ -131,12 +131,15 @@ module _ (area : Area) (t : Turning) where
   unfolding store
   store-not d x m w = does-no _ w (does-done tt m)
 
--- ---- an offset out of two
+-- ---- two offsets
 
-pub both-below : (a b k : ℕ) → a < 512 → b < 512 → getD (a ∷ b ∷ []) k 0 < 512
-both-below a b zero p q = p
-both-below a b (suc zero) p q = q
-both-below a b (suc (suc k)) p q = omega arith
+abbrev pub Offsets : List ℕ → Type 0
+Offsets xs = (k : ℕ) → getD xs k 0 < 512
+
+pub two-offsets : {a b : ℕ} → a < 512 → b < 512 → Offsets (a ∷ b ∷ [])
+two-offsets p q zero = p
+two-offsets p q (suc zero) = q
+two-offsets p q (suc (suc k)) = omega arith
 
 -- ---- the stages: a, b, c and d are what was read
 

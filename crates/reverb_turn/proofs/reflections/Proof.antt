@@ -1,5 +1,5 @@
 use mathlib.Core.Path.{_∙_}
-use Prim.Native.Nat.{_+_, _-_, _≤_}
+use Prim.Native.Nat.{_-_, _≤_}
 use native.Mathlib.Omega.{arith}
 use borrow.Author.Needs.{needs}
 use mir.Syntax.{w32}
@@ -9,13 +9,14 @@ use Rattle.fixed.proofs.Number.{ok, is, passed-in}
 use Rattle.soundram.specs.Address.{Lent}
 use Rattle.soundram.specs.Program.{Does, memOf, repeat}
 use Rattle.soundram.proofs.Programs.{lent-after, repeat-none, repeat-more, repeat-end}
-use Rattle.reverb.proofs.Turns.{both-below, reflectionAt, reflections-does}
+use Rattle.reverb.proofs.Turns.{Offsets, two-offsets, reflectionAt, reflections-does}
 use Rattle.reverb_turn.proofs.reflections.Statement.{statement}
 use Rattle.reverb_turn.proofs.reflections.Tie as tie
 
 abbrev Inv-loop : tie.InvT-loop
 Inv-loop regs ram₀ marks₀ area t input s o x m d watch₀ k₀ ram marks watch k =
     (k ≤ 2) × Lent (area .size) ram marks × Does (repeat (reflectionAt regs area t (toZ w32 x) m d) k tt) (memOf ram₀ marks₀ watch₀) tt (memOf ram marks watch)
+    × Offsets m × Offsets d
 
 abbrev μ-loop : tie.MeasureT-loop
 μ-loop regs ram₀ marks₀ area t input s o x m d watch₀ k₀ ram marks watch k = 2 - k
@@ -46,8 +47,12 @@ add-t17-2 c = search needs
 
 loop-holds : tie.Need-loop-holds Inv-loop μ-loop
 loop-holds c =
-    let a = c .before .before .before .before .before .before in
-    (omega arith, a .pre .0, repeat-none _ _ _)
+    let d = c .before in
+    let e = d .before .before in
+    let f = e .before .before .before in
+    let h = e .side .ensures .1 in
+    let i = d .side2 .ensures .1 in
+    (omega arith, f .pre .0, repeat-none _ _ _, two-offsets (omega arith) (omega arith), two-offsets (omega arith) (omega arith))
 
 mul-reflection : tie.Need-mul-reflection Inv-loop μ-loop
 mul-reflection c = search needs
@@ -65,15 +70,9 @@ reflection-requires : tie.Need-reflection-requires Inv-loop μ-loop
 reflection-requires c κs =
     let a = c .before .before .before in
     let b = a .before in
-    let d = b .before in
-    let e = d .before .before in
-    let f = e .before .before .before in
-    let s = e .side .result in
-    let o = d .side2 .result in
-    let k = a .loop .k in
-    let h = e .side .ensures .1 in
-    let i = d .side2 .ensures .1 in
-    (a .loop .inv .1, f .pre .1, passed-in w32 (b .scaled-sample .ensures .1) tt, both-below (0x1D4 + s) (0x1E4 + s) k (omega arith) (omega arith), both-below (0x1E0 + s) (0x1F0 + o) k (omega arith) (omega arith))
+    let f = b .before .before .before .before .before .before in
+    let v = a .loop .inv in
+    (v .1, f .pre .1, passed-in w32 (b .scaled-sample .ensures .1) tt, v .3 (a .loop .k), v .4 (a .loop .k))
 
 add-k : tie.Need-add-k Inv-loop μ-loop
 add-k c = search needs
@@ -86,7 +85,7 @@ loop-again c =
     let a = c .before .before .before .before in
     let b = a .before .before .before in
     let v = b .before .loop .inv in
-    let p = a .reflection .ensures in (omega (arith, b .loop-test .taken), lent-after p (v .1), repeat-more _ _ _ _ _ (v .2) p)
+    let p = a .reflection .ensures in (omega (arith, b .loop-test .taken), lent-after p (v .1), repeat-more _ _ _ _ _ (v .2) p, v .3, v .4)
 
 same-length : tie.Need-same-length Inv-loop μ-loop
 same-length c = search needs
