@@ -51,7 +51,7 @@ pub fn run(s: State, ram: &mut [u8], marks: &mut [u8], cd: &[i16], out: &mut [i1
     let table = gauss::table();
     let pmon = voices::modulation(&s.regs);
     let non = registers::flags(&s.regs, 0x194);
-    let volumes = voices::volumes(&s.regs);
+    let volumes = voices_mix::volumes(&s.regs);
     let steps = voices_glide::steps(&s.regs, pmon, non);
     let count = out.len() / 2;
     let mut g = tick_end::begin(s, count);

@@ -121,7 +121,7 @@ fn close(
     requires { ⌜ Lent size (now ram) (now marks) × CaptureIn (r .capture) × PlaceIn size (baseAt size (now regs) .0) (r .reverb .place .0) × Volumes (now regs) (now volumes) ⌝ }
     ensures { λ c. ⌜ Does (closeOf (now (regs .entry)) size r n (mixedOf (now (regs .entry)) amplitudes 24) left right) (memOf (now (ram .entry)) (now (marks .entry)) w) (record { pair = c .pair; rest = c .rest }) (memOf (now (ram .exit)) (now (marks .exit)) (c .watch)) ⌝ }
 {
-    let sums = voices::mix(regs, volumes, amplitudes);
+    let sums = voices_mix::mix(regs, volumes, amplitudes);
     let captured = capture::capture(ram, marks, size, r.capture, left, right, sums.captured, w);
     let t = turn(
         regs,

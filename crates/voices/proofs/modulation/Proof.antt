@@ -1,5 +1,5 @@
 use borrow.Author.Needs.{needs}
-use Rattle.voices.proofs.Shares.{modulated-as}
+use Rattle.voices.proofs.Settings.{modulated-as}
 use Rattle.voices.proofs.modulation.Statement.{statement}
 use Rattle.voices.proofs.modulation.Tie as tie
 

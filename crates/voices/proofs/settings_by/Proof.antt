@@ -1,5 +1,5 @@
 use borrow.Author.Needs.{needs}
-use Rattle.voices.proofs.Shares.{settings-by-as}
+use Rattle.voices.proofs.Settings.{settings-by-as}
 use Rattle.voices.proofs.settings_by.Statement.{statement}
 use Rattle.voices.proofs.settings_by.Tie as tie
 

@@ -1,5 +1,5 @@
 use borrow.Author.Needs.{needs}
-use Rattle.voices.proofs.Shares.{flagged-as}
+use Rattle.voices.proofs.Settings.{flagged-as}
 use Rattle.voices.proofs.with_flags.Statement.{statement}
 use Rattle.voices.proofs.with_flags.Tie as tie
 

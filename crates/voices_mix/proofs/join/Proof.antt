@@ -3,9 +3,9 @@ use lib.IntN.{ℤ}
 use mir.Syntax.{w32}
 use Rattle.fixed.specs.Range.{In}
 use Rattle.fixed.proofs.Number.{Num, arg-in, fit, add, need, hold, is}
 use Rattle.voices.specs.Voices.{joinedOf}
-use Rattle.voices.proofs.join.Statement.{statement}
-use Rattle.voices.proofs.join.Tie as tie
+use Rattle.voices_mix.proofs.join.Statement.{statement}
+use Rattle.voices_mix.proofs.join.Tie as tie
 
 -- a side's sum
 abbrev sum : {a b : ℤ} → In (23 * 0x8000) (23 * 0x8000) a → In 0x8000 0x8000 b → Num

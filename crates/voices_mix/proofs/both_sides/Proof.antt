@@ -2,9 +2,9 @@ use borrow.Author.Needs.{needs}
 use mir.Syntax.{w32}
 use mir.Facts.{toZ-ofZ}
 use Rattle.fixed.proofs.Number.{passed-in, ok, is}
-use Rattle.voices.proofs.Shares.{shares-as}
-use Rattle.voices.proofs.both_sides.Statement.{statement}
-use Rattle.voices.proofs.both_sides.Tie as tie
+use Rattle.voices_mix.proofs.Shares.{shares-as}
+use Rattle.voices_mix.proofs.both_sides.Statement.{statement}
+use Rattle.voices_mix.proofs.both_sides.Tie as tie
 
 mul-side : tie.Need-mul-side
 mul-side c = search needs

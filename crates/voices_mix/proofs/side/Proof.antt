@@ -1,8 +1,8 @@
 use mir.Syntax.{w32}
 use Rattle.fixed.specs.Arithmetic.{productOf}
 use Rattle.fixed.proofs.Number.{Num, arg, hold, mul, shr, need, is, range, wide}
-use Rattle.voices.proofs.side.Statement.{statement}
-use Rattle.voices.proofs.side.Tie as tie
+use Rattle.voices_mix.proofs.side.Statement.{statement}
+use Rattle.voices_mix.proofs.side.Tie as tie
 
 abbrev a : tie.Start → Num
 a c = arg (c .fits .amplitude)

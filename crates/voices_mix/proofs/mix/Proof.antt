@@ -2,10 +2,10 @@ use mathlib.Core.Path.{_≡_, refl}
 use Prim.Native.Nat.{_-_, _≤_, _<_}
 use native.Mathlib.Omega.{arith}
 use borrow.Author.Needs.{needs}
 use Rattle.voices.specs.Voices.{noSums, SidesIn, mixedOf}
-use Rattle.voices.proofs.Shares.{joined-in, sides-few, silent-in, sides-end, mixed-dry, mixed-wet, mixed-all}
-use Rattle.voices.proofs.mix.Statement.{statement}
-use Rattle.voices.proofs.mix.Tie as tie
+use Rattle.voices_mix.proofs.Shares.{joined-in, sides-few, silent-in, sides-end, mixed-dry, mixed-wet, mixed-all}
+use Rattle.voices_mix.proofs.mix.Statement.{statement}
+use Rattle.voices_mix.proofs.mix.Tie as tie
 
 abbrev Inv-loop : tie.InvT-loop
 Inv-loop regs v amplitudes dry₀ wet₀ n₀ dry wet n =

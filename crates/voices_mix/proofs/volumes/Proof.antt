@@ -5,9 +5,9 @@ use borrow.Author.Needs.{needs}
 use mir.Syntax.{w16}
 use Rattle.fixed.specs.Arithmetic.{volumeOf}
 use Rattle.fixed.proofs.Number.{passed}
-use Rattle.voices.proofs.Shares.{Filled, filled-none, filled-more, filled-end, gated-by}
-use Rattle.voices.proofs.volumes.Statement.{statement}
-use Rattle.voices.proofs.volumes.Tie as tie
+use Rattle.voices_mix.proofs.Shares.{Filled, filled-none, filled-more, filled-end, gated-by}
+use Rattle.voices_mix.proofs.volumes.Statement.{statement}
+use Rattle.voices_mix.proofs.volumes.Tie as tie
 
 abbrev Inv-loop : tie.InvT-loop
 Inv-loop regs eon v₀ n₀ v n = Filled regs v n

@@ -1,7 +1,7 @@
 use mir.Facts.{toZ-ofZ}
-use Rattle.voices.proofs.Shares.{gate-on, gate-off}
-use Rattle.voices.proofs.gate.Statement.{statement}
-use Rattle.voices.proofs.gate.Tie as tie
+use Rattle.voices_mix.proofs.Shares.{gate-on, gate-off}
+use Rattle.voices_mix.proofs.gate.Statement.{statement}
+use Rattle.voices_mix.proofs.gate.Tie as tie
 
 returns : tie.Need-returns
 returns c = gate-on _ (c .if1 .taken) (toZ-ofZ (c .before .fits .volume))

@@ -1,73 +1,22 @@
 -- Sides and sums, from what the code's parts give, and their ranges. Assumes nothing.
-use mathlib.Core.Path.{_≡_, refl, sym, ap, subst, _∙_}
-use mathlib.Core.Bool.{Bool, true, false, cond, _&&_}
+use mathlib.Core.Path.{_≡_, refl, subst, _∙_}
+use mathlib.Core.Bool.{Bool, true, false, cond}
 use mathlib.Core.List.{List}
-use Prim.Native.Nat.{ℕ, suc, _+_, _-_, _*_, _/_, _%_, _^_, _≤_, _<_}
+use Prim.Native.Nat.{ℕ, suc, _+_, _-_, _*_, _≤_, _<_}
 use native.Mathlib.Numerals.{add-one}
 use native.Mathlib.Nat.{mul-zero}
 use native.Mathlib.Omega.{arith}
-use native.Mathlib.Decide.{decLt}
-use lib.Dec.{eqb, ltb}
 use lib.ListN.{length, getD, set, length-set}
 use lib.Seq.{getD-set-same, getD-set-other}
 use borrow.Author.Count.{below-more}
-use lib.Pow.{shr-shr}
 use lib.IntN.{ℤ, pos, negsuc, _+ℤ_}
-use borrow.Author.Tests.{lt-ltb}
-use Rattle.fixed.specs.Bits.{bit, field}
+use Rattle.fixed.specs.Bits.{bit}
 use Rattle.fixed.specs.Range.{In}
 use Rattle.fixed.specs.Arithmetic.{productOf, volumeOf}
 use Rattle.fixed.proofs.Number.{add-in}
 use Rattle.registers.specs.Map.{ofVoice, flagOf, Flags}
-use Rattle.voice.specs.declared.Settings.{Settings}
 use Rattle.voices.specs.declared.Sides.{Sides}
-use Rattle.voices.specs.Voices.{flaggedOf, settingsOf, Modulated, sideOf, sidesOf, silent, Volumes, sharesOf, joinedOf, gatedOf, capturedOf, addedOf, SidesIn, mixedOf}
-
-pub flagged-as : (regs : List ℕ) (n : ℕ) (m o : Bool) {p l h : ℕ} → p ≡ ofVoice regs n 4 → l ≡ ofVoice regs n 8 → h ≡ ofVoice regs n 0xA
-    → record { pitch = p; low = l; high = h; modulated = m; noise = o } ≡ flaggedOf regs n m o
-unfolding flaggedOf
-flagged-as regs n m o a b c = rw (a, b, c)
-
--- m and o are the flags as the calls have them
-pub settings-as : (regs : List ℕ) (n : ℕ) (m : Bool) {o : Bool} {s : Settings} → m ≡ flagOf regs 0x190 n → o ≡ flagOf regs 0x194 n
-    → s ≡ flaggedOf regs n (m && ltb 0 n) o → s ≡ settingsOf regs n
-unfolding settingsOf flaggedOf
-settings-as regs n m p q e = rw (e, p, q)
-
--- the lowest bit cleared
-
-clear-same : (x : ℕ) → bit 0 (x / 2 * 2) ≡ (bit 0 x && false)
-clear-same x = let e : x / 2 * 2 / 1 % 2 ≡ 0 = omega arith in rw (e, off (bit 0 x))
-  where
-    off : (b : Bool) → (b && false) ≡ false
-    off true = refl
-    off false = refl
-
-clear-above : (x k : ℕ) → field (1 + k) 1 (x / 2 * 2) ≡ field (1 + k) 1 x
-clear-above x k =
-    let e : x / 2 * 2 / 2 ≡ x / 2 = omega arith in
-    ap (λ (y : ℕ). y % 2) (sym (shr-shr (x / 2 * 2) 1 k) ∙ ap (λ (y : ℕ). y / 2 ^ k) e ∙ shr-shr x 1 k)
-
-clear-low : (x n : ℕ) → bit n (x / 2 * 2) ≡ (bit n x && ltb 0 n)
-clear-low x n = by (decLt 0 n)
-  where
-    on : (b : Bool) → (b && true) ≡ b
-    on true = refl
-    on false = refl
-
-    by : Dec (0 < n) → bit n (x / 2 * 2) ≡ (bit n x && ltb 0 n)
-    by (yes h) =
-        let p : n ≡ 1 + (n - 1) = omega arith in
-        rw (lt-ltb 0 n h, on (bit n x)) (ap (λ (k : ℕ). bit k (x / 2 * 2)) p ∙ ap (λ (y : ℕ). eqb y 1) (clear-above x (n - 1)) ∙ ap (λ (k : ℕ). bit k x) (sym p))
-    by (no h) = let p : 0 ≡ n = omega arith in subst (λ (k : ℕ). bit k (x / 2 * 2) ≡ (bit k x && ltb 0 k)) p (clear-same x)
-
-pub modulated-as : (regs : List ℕ) {x : ℕ} → Flags regs 0x190 x → Modulated regs (x / 2 * 2)
-modulated-as regs {x} f = record { each = λ n h. clear-low x n ∙ ap (λ (b : Bool). b && ltb 0 n) (f .each n h) }
-
-pub settings-by-as : (regs : List ℕ) (n : ℕ) {pmon non : ℕ} {m o : Bool} {s : Settings} → n < 24 → Modulated regs pmon → Flags regs 0x194 non
-    → m ≡ bit n pmon → o ≡ bit n non → s ≡ flaggedOf regs n m o → s ≡ settingsOf regs n
-unfolding settingsOf flaggedOf
-settings-by-as regs n k f g p q e = rw (e, p, q, f .each n k, g .each n k)
+use Rattle.voices.specs.Voices.{sideOf, sidesOf, silent, Volumes, sharesOf, joinedOf, gatedOf, capturedOf, addedOf, SidesIn, mixedOf}
 
 -- x and y are the amplitude as the calls have it, p and q the volumes, l′ and r′ the shares as the answer holds them
 pub shares-as : (v : List ℤ) (k : ℕ) (a : ℤ) {l r l′ r′ x y p q : ℤ} → p ≡ getD v k (pos 0) → q ≡ getD v (k + 24) (pos 0) → x ≡ a → y ≡ a
