@@ -52,7 +52,7 @@ pub fn run(s: State, ram: &mut [u8], marks: &mut [u8], cd: &[i16], out: &mut [i1
     let pmon = voices::modulation(&s.regs);
     let non = registers::flags(&s.regs, 0x194);
     let volumes = voices_mix::volumes(&s.regs);
-    let steps = voices_glide::steps(&s.regs, pmon, non);
+    let steps = voices_stay::steps(&s.regs, pmon, non);
     let count = out.len() / 2;
     let mut g = tick_end::begin(s, count);
     let mut watch = g.watch;
@@ -95,7 +95,7 @@ pub fn run(s: State, ram: &mut [u8], marks: &mut [u8], cd: &[i16], out: &mut [i1
         }
         let step = steps[n];
         let x = voices[n];
-        let m = voices_glide::glide(
+        let m = voices_stay::stay(
             &table,
             &s.regs,
             pmon,

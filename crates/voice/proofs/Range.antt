@@ -125,9 +125,12 @@ unfolding readyOf
 ready-in who v r = always-branch (v .playing .loaded) (λ _. ends r) (λ _. load-in who v r)
 
 -- at most four samples are moved
+pub moved-small : (v : Voice) (p : ℕ) {r : Moved} → r ≡ movedOf (v .position .counter) p → v .position .counter < 0x1000 → v .position .index ≤ 27 → p ≤ 0x4000 → v .position .index + r .moves < 32
+moved-small v p e c i h = let m = moved-most (v .position .counter) p c h in rw e (omega arith)
+
 pub moves-small : (s : Settings) (v : Voice) (below : ℤ) {p : ℕ} {r : Moved} → p ≡ stepOf (s .pitch) (s .modulated) below → r ≡ movedOf (v .position .counter) p
     → v .position .counter < 0x1000 → v .position .index ≤ 27 → v .position .index + r .moves < 32
-moves-small s v below e f c i = let m = moved-most (v .position .counter) _ c (step-most (s .pitch) (s .modulated) below) in rw (f, e) (omega arith)
+moves-small s v below e f c i = moved-small v _ f c i (rw e (step-most (s .pitch) (s .modulated) below))
 
 target-small : (s : Settings) (below : ℤ) (v : Voice) → v .position .counter < 0x1000 → v .position .index ≤ 27 → targetOf s below v < 32
 unfolding targetOf

@@ -148,8 +148,8 @@ array-copy-out-x c =
     let i = c .before .before .before .before in
     search (needs, i .if1 .left)
 
-glide-requires : tie.Need-glide-requires Inv-loop μ-loop
-glide-requires c κs =
+stay-requires : tie.Need-stay-requires Inv-loop μ-loop
+stay-requires c κs =
     let i = c .before .before .before .before .before .before .before .before in
     let o = i .before .before in
     let t = o .before .before .before .before in
@@ -288,7 +288,7 @@ loop-again-4 c =
     let t = i .before in
     let o = t .before in
     let p = o .loop .inv in
-    let e = g .glide .ensures in
+    let e = g .stay .ensures in
     let v = getD (o .loop .voices) (o .loop .n) pastEnd in
     let l = not (v .playing .loaded) in
     run-voice p (t .loop-test .taken) (play-more (p .lent .sized) (p .play) (omega (arith, i .if1 .left)) refl
@@ -341,7 +341,7 @@ loop-again-5 c =
     let t = i .before in
     let o = t .before in
     let p = o .loop .inv in
-    let e = g .glide .ensures in
+    let e = g .stay .ensures in
     let v = getD (o .loop .voices) (o .loop .n) pastEnd in
     let l = not (v .playing .loaded) in
     run-voice p (t .loop-test .taken) (play-more (p .lent .sized) (p .play) (omega (arith, i .if1 .left)) refl
@@ -404,7 +404,7 @@ run-spec =
     array-read-step
     mul-x
     array-copy-out-x
-    glide-requires
+    stay-requires
     mul-v
     array-copy-out-v
     settings-by-requires

@@ -2,9 +2,9 @@ use mathlib.Core.Path.{refl}
 use Prim.Native.Nat.{_-_}
 use native.Mathlib.Omega.{arith}
 use borrow.Author.Needs.{needs}
-use Rattle.voices_glide.proofs.Glides.{Stepping, stepping-none, stepping-more, stepping-end}
-use Rattle.voices_glide.proofs.steps.Statement.{statement}
-use Rattle.voices_glide.proofs.steps.Tie as tie
+use Rattle.voices_stay.proofs.Stays.{Stepping, stepping-none, stepping-more, stepping-end}
+use Rattle.voices_stay.proofs.steps.Statement.{statement}
+use Rattle.voices_stay.proofs.steps.Tie as tie
 
 abbrev Inv-loop : tie.InvT-loop
 Inv-loop regs pmon non v₀ i₀ v i = Stepping regs v i

@@ -19,5 +19,6 @@ pub record Toned (s t : Settings) : Type 0 where
 unfoldable pub steadyOf : Settings → ℕ
 steadyOf s = cond (s .noise || s .modulated) 0xFFFF (stepOf (s .pitch) false (pos 0))
 
+-- those of all voices
 pub record Steps (regs steps : List ℕ) : Type 0 where
   pub each : (n : ℕ) → n < 24 → getD steps n 0 ≡ steadyOf (settingsOf regs n)

@@ -1,7 +1,7 @@
 use borrow.Author.Needs.{needs}
-use Rattle.voices_glide.proofs.Glides.{tone-as}
-use Rattle.voices_glide.proofs.tone.Statement.{statement}
-use Rattle.voices_glide.proofs.tone.Tie as tie
+use Rattle.voices_stay.proofs.Stays.{tone-as}
+use Rattle.voices_stay.proofs.tone.Statement.{statement}
+use Rattle.voices_stay.proofs.tone.Tie as tie
 
 of-voice-requires : tie.Need-of-voice-requires
 of-voice-requires c κs = search needs

@@ -6,13 +6,13 @@ ghost use Rattle.pitch.specs.Pitch.{movedOf};
 ghost use Rattle.registers.specs.Map.{Flags};
 ghost use Rattle.voice.specs.Voice.{amplitudeOf, movementOf, targetOf};
 ghost use Rattle.voices.specs.Voices.{Modulated, settingsOf};
-ghost use Rattle.voices_glide.specs.Glide.{Toned, steadyOf, Steps};
+ghost use Rattle.voices_stay.specs.Steady.{Toned, steadyOf, Steps};
 use voice::Settings;
 use voice::Voice;
 
 // What a tick of a voice with its block loaded gives, beside its envelope's step: the place between samples, the sample that it
 // leads to, which may lie past the block's last, and the amplitude.
-pub struct Glided {
+pub struct Stayed {
     pub counter: u16,
     pub target: u32,
     pub amplitude: i16,
@@ -56,13 +56,13 @@ pub fn steps(regs: &[u16; 256], pmon: u32, non: u32) -> [u16; 24]
 }
 
 // What a voice gives by these settings, and where the pitch step leads it.
-fn moved(table: &[i16; 512], v: Voice, s: Settings, level: u16, step: u16) -> Glided
+fn moved(table: &[i16; 512], v: Voice, s: Settings, level: u16, step: u16) -> Stayed
     requires { ⌜ (now table ≡ factors) × (v .position .counter < 0x1000) × (v .position .index ≤ 27) × (v .envelope .level ≤ 0x7FFF) × (step ≤ 0x4000) ⌝ }
     ensures { λ r. ⌜ (r .counter ≡ movedOf (v .position .counter) step .counter) × (r .target ≡ v .position .index + movedOf (v .position .counter) step .moves) × (r .target < 32) × (r .amplitude ≡ amplitudeOf s level v) ⌝ }
 {
     let x = voice_sound::amplitude(table, s, level, v);
     let p = pitch::advance(v.position.counter, step);
-    Glided {
+    Stayed {
         counter: p.counter,
         target: v.position.index as u32 + p.moves,
         amplitude: x,
@@ -70,7 +70,7 @@ fn moved(table: &[i16; 512], v: Voice, s: Settings, level: u16, step: u16) -> Gl
 }
 
 // Voice n with its block loaded. Most voices play their samples and are not modulated, and need neither their settings nor the voice below.
-pub fn glide(
+pub fn stay(
     table: &[i16; 512],
     regs: &[u16; 256],
     pmon: u32,
@@ -80,7 +80,7 @@ pub fn glide(
     step: u16,
     below: i16,
     level: u16,
-) -> Glided
+) -> Stayed
     requires { ⌜ (now table ≡ factors) × (n < 24) × Modulated (now regs) pmon × Flags (now regs) 0x194 non × (step ≡ steadyOf (settingsOf (now regs) n)) × (v .position .counter < 0x1000) × (v .position .index ≤ 27) × (v .envelope .level ≤ 0x7FFF) ⌝ }
     ensures { λ r. ⌜ (r .counter ≡ movementOf (settingsOf (now (regs .entry)) n) below v .counter) × (r .target ≡ targetOf (settingsOf (now (regs .entry)) n) below v) × (r .target < 32) × (r .amplitude ≡ amplitudeOf (settingsOf (now (regs .entry)) n) level v) ⌝ }
 {

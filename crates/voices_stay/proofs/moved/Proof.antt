@@ -4,9 +4,9 @@ use native.Mathlib.Omega.{arith}
 use borrow.Author.Needs.{needs}
 use Rattle.fixed.proofs.Number.{passed}
 use Rattle.pitch.specs.declared.Moved.{Moved}
-use Rattle.voices_glide.proofs.Glides.{moved-small}
-use Rattle.voices_glide.proofs.moved.Statement.{statement}
-use Rattle.voices_glide.proofs.moved.Tie as tie
+use Rattle.voice.proofs.Range.{moved-small}
+use Rattle.voices_stay.proofs.moved.Statement.{statement}
+use Rattle.voices_stay.proofs.moved.Tie as tie
 
 small : (c : tie.After-struct-known2) → c .before .before .before .before .args .v .position .index + c .before .before .advance .result .moves < 32
 small c = search moved-small

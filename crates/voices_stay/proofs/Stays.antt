@@ -10,15 +10,13 @@ use lib.IntN.{ℤ, pos}
 use borrow.Author.Count.{below-more}
 use Rattle.fixed.specs.Bits.{bit}
 use Rattle.fixed.proofs.Bools.{or-first, or-rest}
-use Rattle.pitch.specs.declared.Moved.{Moved}
 use Rattle.pitch.specs.Pitch.{stepOf, movedOf}
-use Rattle.pitch.proofs.Laws.{moved-most}
 use Rattle.registers.specs.Map.{ofVoice, Flags}
 use Rattle.voice.specs.declared.Settings.{Settings}
 use Rattle.voice.specs.declared.Voice.{Voice}
 use Rattle.voice.specs.Voice.{soundOf, amplitudeOf, movementOf, targetOf}
 use Rattle.voices.specs.Voices.{Modulated, settingsOf}
-use Rattle.voices_glide.specs.Glide.{Toned, steadyOf, Steps}
+use Rattle.voices_stay.specs.Steady.{Toned, steadyOf, Steps}
 
 -- ---- t has the same pitch, modulation and noise as s
 
@@ -79,10 +77,6 @@ module _ (s : Settings) where
     pub plain-amplitude : (t : Settings) (l level : ℕ) {a : ℤ} → t .noise ≡ false → a ≡ amplitudeOf t l v → a ≡ amplitudeOf s level v
     unfolding amplitudeOf soundOf
     plain-amplitude t l level f e = e ∙ rw (f, or-first (s .noise) (s .modulated) plain)
-
--- at most four samples are moved
-pub moved-small : (v : Voice) (p : ℕ) {r : Moved} → r ≡ movedOf (v .position .counter) p → v .position .counter < 0x1000 → v .position .index ≤ 27 → p ≤ 0x4000 → v .position .index + r .moves < 32
-moved-small v p e c i h = let m = moved-most (v .position .counter) p c h in rw e (omega arith)
 
 -- the steps of the first n voices
 pub record Stepping (regs v : List ℕ) (n : ℕ) : Type 0 where

@@ -2,9 +2,9 @@ use mathlib.Core.Path.{refl}
 use borrow.Author.Needs.{needs}
 use mir.Facts.{toZ-ofZ}
 use Rattle.pitch.proofs.Laws.{step-most}
-use Rattle.voices_glide.proofs.Glides.{tone-counter, tone-target, tone-amplitude, plain-counter, plain-target, plain-amplitude}
-use Rattle.voices_glide.proofs.glide.Statement.{statement}
-use Rattle.voices_glide.proofs.glide.Tie as tie
+use Rattle.voices_stay.proofs.Stays.{tone-counter, tone-target, tone-amplitude, plain-counter, plain-target, plain-amplitude}
+use Rattle.voices_stay.proofs.stay.Statement.{statement}
+use Rattle.voices_stay.proofs.stay.Tie as tie
 
 moved-requires : tie.Need-moved-requires
 moved-requires c κs = search needs
@@ -40,7 +40,7 @@ returns-2 c =
     let v = z .args .v in
     (tone-counter k _ v b (q .step .ensures) (e .0), tone-target k _ _ b (q .step .ensures) (e .1), e .2, tone-amplitude k (z .args .below) _ _ (e .3))
 
-pub glide-spec : {M : Type 1} → statement M
-glide-spec =
+pub stay-spec : {M : Type 1} → statement M
+stay-spec =
     tie.close
     (tie.spec moved-requires returns tone-requires step-requires moved-requires-2 returns-2)

@@ -1,7 +1,7 @@
 use borrow.Author.Needs.{needs}
-use Rattle.voices_glide.proofs.Glides.{steady-none, steady-some}
-use Rattle.voices_glide.proofs.steady.Statement.{statement}
-use Rattle.voices_glide.proofs.steady.Tie as tie
+use Rattle.voices_stay.proofs.Stays.{steady-none, steady-some}
+use Rattle.voices_stay.proofs.steady.Statement.{statement}
+use Rattle.voices_stay.proofs.steady.Tie as tie
 
 returns : tie.Need-returns
 returns c = search (steady-none, needs)
