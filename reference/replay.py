@@ -14,6 +14,8 @@ CD samples are hex, counts decimal.  SD is the state's doubt after the call.
     ram ADDR N         ram AAAAA BYTES
     marks ADDR N       marks AAAAA 0110..
     fill ADDR N BB     ok
+
+The last line is "end clear" or "end doubt": the state's doubt.
 """
 import struct
 import sys
@@ -122,6 +124,7 @@ def replay(L, data):
             yield from COMMANDS[words[0]](spu, words[1:])
         except BadLine:
             yield "bad line"
+    yield "end doubt" if spu.doubt else "end clear"
 
 
 if __name__ == "__main__":

@@ -309,6 +309,7 @@ int main(int argc, char **argv)
     while (lines_next(&lines, &line))
         if (!is_silent(line) && !answer(&core, line))
             puts("bad line");
+    puts(core_status(&core).doubt ? "end doubt" : "end clear");
     bool good = feof(stdin) && fflush(stdout) == 0 && !ferror(stdout);
     lines_free(&lines);
     core_free(&core);
