@@ -1,5 +1,5 @@
 -- No answer is longer than 512 bytes, so none is cut where that much room is left. Assumes nothing.
-use mathlib.Core.Bool.{Bool}
+use mathlib.Core.Bool.{Bool, true, false}
 use mathlib.Core.List.{List, [], _∷_, _++_}
 use Prim.Native.Nat.{ℕ, zero, suc, _+_, _*_, _≤_}
 use native.Mathlib.Omega.{arith}
@@ -9,7 +9,7 @@ use lib.Ieee.{Float}
 use Rattle.soundram.specs.Memory.{marked}
 use Rattle.text.specs.Text.{hexText, decimalText, flagText}
 use Rattle.text.proofs.Lengths.{digits-length, decimal-length, signed-length, flag-length}
-use Rattle.answers.specs.Answer.{decimalPart, signedPart, pairPart, flagPart, hexPart, reportsPart, doubtEnd, endPart, startOf, writeText, readText, movedOf, inwardText, halfwordsFrom, halfwordsEnd, outwardText, tickStart, tickText, bitsOf, floatsPart, floatsText, bytesFrom, bytesEnd, viewText, resetText, ramText, marksFrom, marksEnd, marksText, benchText, refusedText}
+use Rattle.answers.specs.Answer.{decimalPart, signedPart, pairPart, flagPart, hexPart, reportsPart, doubtEnd, endPart, startOf, writeText, readText, movedOf, inwardText, halfwordsFrom, halfwordsEnd, outwardText, tickStart, tickText, bitsOf, floatsPart, floatsText, bytesFrom, bytesEnd, viewText, resetText, ramText, marksFrom, marksEnd, marksText, benchText, refusedText, endText}
 
 -- a text of at most n bytes
 pub record Short (n : ℕ) (t : List ℕ) : Type 0 where
@@ -155,3 +155,8 @@ bench-short t l r d = wider (both (both (decimals t) (pair-part l r)) (doubt-end
 pub refused-short : (n : ℕ) → Short 512 (refusedText n)
 unfolding refusedText
 refused-short n = wider (both (both (whole (114 ∷ 101 ∷ 102 ∷ 117 ∷ 115 ∷ 101 ∷ 100 ∷ [])) (decimal-part n)) (whole (10 ∷ []))) (omega arith)
+
+pub end-short : (d : Bool) → Short 512 (endText d)
+unfolding endText
+end-short true = record { most = omega arith }
+end-short false = record { most = omega arith }

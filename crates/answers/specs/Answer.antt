@@ -2,6 +2,7 @@
 use mathlib.Core.Bool.{Bool, cond}
 use mathlib.Core.List.{List, [], _∷_, _++_}
 use Prim.Native.Nat.{ℕ, zero, suc, _+_}
+use lib.Dec.{eqb}
 use lib.ListN.{length, getD}
 use lib.IntN.{ℤ}
 use lib.Ieee.{Float, binary32, eq, toBits}
@@ -136,8 +137,27 @@ benchText tick left right doubt = decimalText tick ++ pairPart left right ++ dou
 unfoldable pub refusedText : ℕ → List ℕ
 refusedText number = (114 ∷ 101 ∷ 102 ∷ 117 ∷ 115 ∷ 101 ∷ 100 ∷ []) ++ decimalPart number ++ 10 ∷ []
 
+-- "Accepted `w` and `s` print nothing"
+unfoldable pub benchNumber : ℕ → List ℕ
+benchNumber number = cond (eqb number 0) [] (refusedText number)
+
 -- ---- of both
+
+-- the answers that bench and replay give in different words
+unfoldable pub writeAnswer : Bool → ℕ → List ℕ
+writeAnswer bench number = cond bench (benchNumber number) (writeText number)
+
+unfoldable pub inwardAnswer : Bool → ℕ → ℕ → Bool → Bool → List ℕ
+inwardAnswer bench number moved irq doubt = cond bench (benchNumber number) (inwardText number moved irq doubt)
+
+unfoldable pub tickAnswer : Bool → ℕ → ℕ → ℤ → ℤ → Bool → Bool → Bool → List ℕ
+tickAnswer bench number tick left right irq doubt after =
+    cond bench (benchText tick left right after) (tickText number tick left right irq doubt after)
 
 -- a program's name and L
 unfoldable pub titleText : List ℕ → ℕ → List ℕ
 titleText name size = name ++ decimalPart size ++ 10 ∷ []
+
+-- "the last line is `end clear` or `end doubt`"
+unfoldable pub endText : Bool → List ℕ
+endText doubt = cond doubt (101 ∷ 110 ∷ 100 ∷ 32 ∷ 100 ∷ 111 ∷ 117 ∷ 98 ∷ 116 ∷ 10 ∷ []) (101 ∷ 110 ∷ 100 ∷ 32 ∷ 99 ∷ 108 ∷ 101 ∷ 97 ∷ 114 ∷ 10 ∷ [])

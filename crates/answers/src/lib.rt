@@ -2,7 +2,7 @@
 // next place.
 ghost use Prim.Native.Nat.{_<_, _≤_};
 ghost use Rattle.text.specs.Text.{Prints};
-ghost use Rattle.answers.specs.Answer.{decimalPart, flagPart, hexPart, reportsPart, startOf, writeText, readText, movedOf, inwardText, resetText, refusedText, titleText};
+ghost use Rattle.answers.specs.Answer.{decimalPart, flagPart, hexPart, reportsPart, startOf, writeText, readText, movedOf, inwardText, resetText, refusedText, benchNumber, writeAnswer, inwardAnswer, titleText, endText};
 
 // ---- parts of a line, each after a blank
 
@@ -108,6 +108,42 @@ pub fn refused(out: &mut [u8], place: usize, number: u8) -> usize
     text::put_byte(out, b, b'\n')
 }
 
+// What bench prints of a write or a transfer: the number of a refused one, nothing of an accepted one.
+pub fn bench_number(out: &mut [u8], place: usize, number: u8) -> usize
+    ensures { λ r. ⌜ Prints (benchNumber number) (now (out .entry)) place (now (out .exit)) r ⌝ }
+{
+    if number == 0 {
+        return place;
+    }
+    refused(out, place, number)
+}
+
+pub fn write_answer(out: &mut [u8], place: usize, bench: bool, number: u8) -> usize
+    ensures { λ r. ⌜ Prints (writeAnswer bench number) (now (out .entry)) place (now (out .exit)) r ⌝ }
+{
+    if bench {
+        return bench_number(out, place, number);
+    }
+    wrote(out, place, number)
+}
+
+pub fn inward_answer(
+    out: &mut [u8],
+    place: usize,
+    bench: bool,
+    number: u8,
+    count: u32,
+    irq: bool,
+    doubt: bool,
+) -> usize
+    ensures { λ r. ⌜ Prints (inwardAnswer bench number count irq doubt) (now (out .entry)) place (now (out .exit)) r ⌝ }
+{
+    if bench {
+        return bench_number(out, place, number);
+    }
+    moved_in(out, place, number, count, irq, doubt)
+}
+
 // A program's name and L.
 pub fn title(out: &mut [u8], place: usize, name: &[u8], size: u32) -> usize
     ensures { λ r. ⌜ Prints (titleText (now (name .entry)) size) (now (out .entry)) place (now (out .exit)) r ⌝ }
@@ -115,4 +151,14 @@ pub fn title(out: &mut [u8], place: usize, name: &[u8], size: u32) -> usize
     let a = text::put_text(out, place, name);
     let b = decimal_part(out, a, size as u64);
     text::put_byte(out, b, b'\n')
+}
+
+// A program's last line: the state's doubt.
+pub fn ended(out: &mut [u8], place: usize, doubt: bool) -> usize
+    ensures { λ r. ⌜ Prints (endText doubt) (now (out .entry)) place (now (out .exit)) r ⌝ }
+{
+    if doubt {
+        return text::put_text(out, place, b"end doubt\n");
+    }
+    text::put_text(out, place, b"end clear\n")
 }

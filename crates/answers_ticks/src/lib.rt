@@ -1,7 +1,7 @@
 // The lines that answer ticks, put into lent bytes at a place. Each function answers the next place.
 ghost use mathlib.Core.Path.{_≡_};
 ghost use Rattle.text.specs.Text.{Prints};
-ghost use Rattle.answers.specs.Answer.{signedPart, pairPart, hexPart, doubtEnd, endPart, tickStart, tickText, bitsOf, floatsPart, floatsText, benchText};
+ghost use Rattle.answers.specs.Answer.{signedPart, pairPart, hexPart, doubtEnd, endPart, tickStart, tickText, bitsOf, floatsPart, floatsText, benchText, tickAnswer};
 
 fn signed_part(out: &mut [u8], place: usize, x: i16) -> usize
     ensures { λ r. ⌜ Prints (signedPart x) (now (out .entry)) place (now (out .exit)) r ⌝ }
@@ -111,4 +111,24 @@ pub fn bench_ticked(
     let a = text::put_decimal(out, place, tick as u64);
     let b = pair_part(out, a, left, right);
     doubt_end(out, b, doubt)
+}
+
+pub fn tick_answer(
+    out: &mut [u8],
+    place: usize,
+    bench: bool,
+    number: u8,
+    tick: u32,
+    left: i16,
+    right: i16,
+    irq: bool,
+    doubt: bool,
+    after: bool,
+) -> usize
+    ensures { λ r. ⌜ Prints (tickAnswer bench number tick left right irq doubt after) (now (out .entry)) place (now (out .exit)) r ⌝ }
+{
+    if bench {
+        return bench_ticked(out, place, tick, left, right, after);
+    }
+    ticked(out, place, number, tick, left, right, irq, doubt, after)
 }

@@ -1,14 +1,12 @@
 -- A run of ticks is the ticks, one by one. Assumes nothing.
-use mathlib.Core.Path.{_≡_, refl, sym, ap, _∙_}
-use mathlib.Core.Bool.{Bool, true, false, not}
+use mathlib.Core.Path.{_≡_, refl, ap, _∙_}
+use mathlib.Core.Bool.{Bool, true, false}
 use mathlib.Core.List.{List, [], _∷_}
 use Prim.Native.Nat.{ℕ, zero, suc, _+_, _*_, _/_}
 use native.Mathlib.Omega.{arith}
-use borrow.Author.Tests.{eq-eqb, eqb-true, ne-eqb, not-false}
-use lib.Dec.{eqb}
+use borrow.Author.Tests.{eq-eqb, ne-eqb}
 use lib.ListN.{length, getD}
 use lib.IntN.{ℤ, pos}
-use Rattle.fixed.proofs.Bools.{or-first}
 use Rattle.soundram.specs.Address.{Lent}
 use Rattle.soundram.specs.declared.Watch.{Watch}
 use Rattle.soundram.specs.Calls.{Reply}
@@ -25,7 +23,6 @@ use Rattle.runs.specs.Run as runs
 use Rattle.runs.specs.Run.{Run, tickedBy}
 use Rattle.spu.specs.Step.{tick, test, firstOf, lentTests, numberOf, acceptedOf}
 use Rattle.host.specs.Run.{runTests, tickAt, ticksOf, startOf, numberedOf, ranOf}
-use Rattle.spu.proofs.Range.{passed-first, passed-rest}
 use Rattle.spu.proofs.Lent.{leaves-works}
 
 -- a state in range, with what is lent of its size
@@ -106,11 +103,6 @@ module _ (s : State) (ram marks : List ℕ) (cd out : List ℤ) {n : ℕ} (e : n
       → record { number = n; count = length out / 2; run = f } ≡ ranOf s ram marks cd out
   unfolding ranOf numberedOf
   run-yes z i l d = rw (← e, z, d, ran-same cd (length out / 2) (startOf s ram marks out (length out / 2)) (record { range = i; lent = l }) .same)
-
--- the lengths of the buffers are equal
-pub run-equal : (s : State) (ram marks cd out : ℕ) {n : ℕ} → n ≡ firstOf (lentTests s ram marks (runTests cd out)) → n ≡ 0 → cd ≡ out
-run-equal s ram marks cd out e z =
-    eqb-true _ _ (not-false _ (or-first (not (eqb cd out)) _ (passed-first _ 8 _ (passed-rest _ 1 _ (passed-rest _ 0 _ (sym e ∙ z))))))
 
 -- ---- the code's test of the buffers
 

@@ -1,5 +1,5 @@
 -- A run of ticks, for hosts that want many at a time: n ticks, each on what the one before it left. Assumes nothing.
-use mathlib.Core.Bool.{cond, _||_, not}
+use mathlib.Core.Bool.{cond, _&&_, _||_, not}
 use mathlib.Core.List.{List, [], _∷_, _++_, map}
 use Prim.Native.Nat.{ℕ, zero, suc, _+_, _*_, _/_, _%_}
 use lib.Dec.{eqb}
@@ -13,9 +13,9 @@ use Rattle.tick.specs.declared.Pair.{Pair}
 use Rattle.runs.specs.Run.{Run}
 use Rattle.spu.specs.Step.{Call, tick, Answer, written, value, moved, movedOut, pair, floats, made, viewed, Test, test, firstOf, lentTests, outcomeOf}
 
--- 9: the buffer is not of whole pairs, or the CD's is of another length
+-- 9: the buffer is not of whole pairs, or the CD's is of another length; a CD's buffer of no samples is a silent CD
 abbrev pub runTests : ℕ → ℕ → List Test
-runTests cd out = test (not (eqb cd out) || not (eqb (out % 2) 0)) 9 ∷ []
+runTests cd out = test ((not (eqb cd 0) && not (eqb cd out)) || not (eqb (out % 2) 0)) 9 ∷ []
 
 abbrev silence : Pair
 silence = record { left = pos 0; right = pos 0 }
@@ -31,7 +31,7 @@ pairIn (floats n f) = silence
 pairIn (made n) = silence
 pairIn (viewed n k) = silence
 
--- the call of tick k
+-- the call of tick k; past the end of the CD's buffer there is silence
 abbrev callAt : List ℤ → ℕ → Call
 callAt cd k = tick (getD cd (k * 2) (pos 0)) (getD cd (k * 2 + 1) (pos 0))
 
@@ -90,8 +90,11 @@ pub record Floats : Type 0 where
   pub floats : List Float
 
 -- 9: also where the floats' buffer is of another length
+abbrev pub floatsTests : ℕ → ℕ → List Test
+floatsTests fs out = test (not (eqb fs out)) 9 ∷ []
+
 unfoldable pub ranFloatsOf : State → List ℕ → List ℕ → List ℤ → List ℤ → List Float → Floats
 ranFloatsOf s ram marks cd out fs =
-    let n = firstOf (lentTests s (length ram) (length marks) (runTests (length fs) (length out) ++ runTests (length cd) (length out))) in
+    let n = firstOf (lentTests s (length ram) (length marks) (runTests (length cd) (length out) ++ floatsTests (length fs) (length out))) in
     let o = numberedOf n s ram marks cd out in
     record { ran = o; floats = cond (eqb n 0) (map floatOf (o .run .out)) fs }

@@ -21,13 +21,13 @@ pub fn run_number(s: State, ram: usize, marks: usize, cd: usize, out: usize) -> 
     if number != 0 {
         return number;
     }
-    if (cd != out) | (out % 2 != 0) {
+    if ((cd != 0) & (cd != out)) | (out % 2 != 0) {
         return 9;
     }
     0
 }
 
-// A tick for each pair of the buffer, of as many pairs of the CD.
+// A tick for each pair of the buffer, of as many pairs of the CD, or of silence if the CD's buffer is empty.
 pub fn run(s: State, ram: &mut [u8], marks: &mut [u8], cd: &[i16], out: &mut [i16]) -> Ran
     ensures { λ r. ⌜ record { number = r .number; count = r .count; run = record { state = r .state; ram = now (ram .exit); marks = now (marks .exit); out = now (out .exit); irq = r .irq; doubt = r .doubt } } ≡ ranOf s (now (ram .entry)) (now (marks .entry)) (now (cd .entry)) (now (out .entry)) ⌝ }
 {

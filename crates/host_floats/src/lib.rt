@@ -30,7 +30,7 @@ pub fn run_floats(
 ) -> Ran
     ensures { λ r. ⌜ record { ran = record { number = r .number; count = r .count; run = record { state = r .state; ram = now (ram .exit); marks = now (marks .exit); out = now (out .exit); irq = r .irq; doubt = r .doubt } }; floats = now (floats .exit) } ≡ ranFloatsOf s (now (ram .entry)) (now (marks .entry)) (now (cd .entry)) (now (out .entry)) (now (floats .entry)) ⌝ }
 {
-    let number = host::run_number(s, ram.len(), marks.len(), floats.len(), out.len());
+    let number = host::run_number(s, ram.len(), marks.len(), cd.len(), out.len());
     if number != 0 {
         let state = s;
         return Ran {
@@ -41,10 +41,17 @@ pub fn run_floats(
             state,
         };
     }
-    let r = host::run(s, ram, marks, cd, out);
-    if r.number != 0 {
-        return r;
+    if floats.len() != out.len() {
+        let state = s;
+        return Ran {
+            number: 9,
+            count: 0,
+            irq: 0,
+            doubt: 0,
+            state,
+        };
     }
+    let r = host::run(s, ram, marks, cd, out);
     to_floats(out, floats);
     r
 }

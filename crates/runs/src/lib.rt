@@ -44,7 +44,7 @@ fn join(s: State, v: [Voice; 24], r: Rest, w: Watch) -> State
 // As many ticks as the buffer holds pairs. One loop goes through the ticks and through the voices of each, so that no voice is copied; voices that
 // stay in their block, most of them, change in place.
 pub fn run(s: State, ram: &mut [u8], marks: &mut [u8], cd: &[i16], out: &mut [i16]) -> Ran
-    requires { ⌜ Lent (s .choices .size) (now ram) (now marks) × InRange s × (length (now cd) ≡ length (now out)) ⌝ }
+    requires { ⌜ Lent (s .choices .size) (now ram) (now marks) × InRange s ⌝ }
     ensures { λ r. ⌜ record { state = r .state; ram = now (ram .exit); marks = now (marks .exit); out = now (out .exit); irq = r .irq; doubt = r .doubt } ≡ ranOf (now (cd .entry)) (length (now (out .entry)) / 2) (record { state = s; ram = now (ram .entry); marks = now (marks .entry); out = now (out .entry); irq = length (now (out .entry)) / 2; doubt = length (now (out .entry)) / 2 }) ⌝ }
 {
     let size = s.choices.size;

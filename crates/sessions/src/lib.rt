@@ -10,12 +10,13 @@ use libc::STDIN_FILENO;
 use libc::STDOUT_FILENO;
 use lines::Line;
 
-// The state, the place in the output up to which answers wait, and whether the output still takes bytes.
+// The state, the place in the output up to which answers wait, whether the output still takes bytes, and whether no read has failed.
 pub struct Session {
     pub bench: bool,
     pub state: State,
     pub place: usize,
     pub open: bool,
+    pub readable: bool,
 }
 
 // A line that is not ended yet, and the session before it.
@@ -89,27 +90,12 @@ fn changed(s: Session, state: State, place: usize) -> Session {
     t
 }
 
-// Of an accepted call bench prints nothing.
-fn bench_number(out: &mut [u8], place: usize, number: u8) -> usize {
-    if number == 0 {
-        return place;
-    }
-    answers::refused(out, place, number)
-}
-
 // ---- one command
-
-fn write_answer(out: &mut [u8], s: Session, number: u8) -> usize {
-    if s.bench {
-        return bench_number(out, s.place, number);
-    }
-    answers::wrote(out, s.place, number)
-}
 
 fn write(out: &mut [u8], s: Session, offset: u16, value: u16) -> Session {
     let w = spu_registers::write(s.state, offset as u32, value);
     let state = w.state;
-    let place = write_answer(out, s, w.number);
+    let place = answers::write_answer(out, s.place, s.bench, w.number);
     changed(s, state, place)
 }
 
@@ -131,20 +117,6 @@ fn least(a: usize, b: usize) -> usize
     if a < b { a } else { b }
 }
 
-fn inward_answer(
-    out: &mut [u8],
-    s: Session,
-    number: u8,
-    count: u32,
-    irq: bool,
-    doubt: bool,
-) -> usize {
-    if s.bench {
-        return bench_number(out, s.place, number);
-    }
-    answers::moved_in(out, s.place, number, count, irq, doubt)
-}
-
 fn inward(
     ram: &mut [u8],
     marks: &mut [u8],
@@ -157,7 +129,15 @@ fn inward(
     let n = least(count, 33);
     let r = spu_transfer::transfer_in(s.state, ram, marks, &values[..n]);
     let state = r.state;
-    let place = inward_answer(out, s, r.number, r.count, r.irq, r.doubt);
+    let place = answers::inward_answer(
+        out,
+        s.place,
+        s.bench,
+        r.number,
+        r.count,
+        r.irq,
+        r.doubt,
+    );
     changed(s, state, place)
 }
 
@@ -181,23 +161,6 @@ fn outward(ram: &[u8], marks: &[u8], out: &mut [u8], s: Session, count: u32) -> 
     outward_into(ram, marks, out, s, &mut buffer[..n])
 }
 
-fn tick_answer(
-    out: &mut [u8],
-    s: Session,
-    number: u8,
-    left: i16,
-    right: i16,
-    irq: bool,
-    doubt: bool,
-    after: bool,
-) -> usize {
-    let tick = s.state.tick;
-    if s.bench {
-        return answers_ticks::bench_ticked(out, s.place, tick, left, right, after);
-    }
-    answers_ticks::ticked(out, s.place, number, tick, left, right, irq, doubt, after)
-}
-
 fn tick(
     ram: &mut [u8],
     marks: &mut [u8],
@@ -208,10 +171,12 @@ fn tick(
 ) -> Session {
     let r = spu_tick::tick(s.state, ram, marks, left, right);
     let state = r.state;
-    let place = tick_answer(
+    let place = answers_ticks::tick_answer(
         out,
-        s,
+        s.place,
+        s.bench,
         r.number,
+        s.state.tick,
         r.left,
         r.right,
         r.irq,
@@ -403,6 +368,18 @@ fn take(ram: &mut [u8], marks: &mut [u8], out: &mut [u8], r: Reading, input: &[u
     t.reading
 }
 
+// No more is read: the input has ended, or a read failed.
+fn stopped(r: Reading, failed: bool) -> Reading {
+    let line = r.line;
+    let mut session = r.session;
+    session.readable = !failed;
+    Reading {
+        session,
+        line,
+        more: false,
+    }
+}
+
 // One piece of the input; none is the end.
 fn piece(
     ram: &mut [u8],
@@ -414,9 +391,7 @@ fn piece(
     let got = libc::read(STDIN_FILENO, input);
     let n = io::count(got, input);
     if n == 0 {
-        let mut t = r;
-        t.more = false;
-        return t;
+        return stopped(r, got < 0);
     }
     take(ram, marks, out, r, &input[..n])
 }
@@ -441,11 +416,11 @@ fn pieces(
     r
 }
 
-// "a last piece without LF is a line if not empty"
+// A last piece without LF is a line if it is not empty, but not where a read failed.
 fn last(ram: &mut [u8], marks: &mut [u8], out: &mut [u8], r: Reading) -> Session {
     let line = r.line;
     let s = r.session;
-    if line.begun {
+    if line.begun & s.readable {
         return answer(ram, marks, out, s, line);
     }
     s
@@ -465,35 +440,50 @@ fn begun(bench: bool, size: u32, place: usize) -> Session {
         state,
         place,
         open: true,
+        readable: true,
     }
 }
 
 // ---- the programs
 
-fn bench_end(out: &mut [u8], s: Session) -> Session {
-    let t = roomy(out, s);
-    if t.state.control.doubt {
-        return say(out, t, b"end doubt\n");
+// The last line. After a failed read there is none, so that what was answered does not look whole.
+fn end(out: &mut [u8], s: Session) -> Session {
+    if !s.readable {
+        return s;
     }
-    say(out, t, b"end clear\n")
+    let t = roomy(out, s);
+    placed(t, answers::ended(out, t.place, t.state.control.doubt))
+}
+
+fn complain(name: &[u8], words: &[u8]) {
+    io::write_all(STDERR_FILENO, name);
+    io::write_all(STDERR_FILENO, words);
+}
+
+// Writes what waits, and says what failed.
+fn finish(name: &[u8], out: &[u8], s: Session) {
+    let t = flush(out, s);
+    if !t.readable {
+        complain(name, b": cannot read standard input\n");
+    }
+    if !t.open {
+        complain(name, b": cannot write standard output\n");
+    }
+}
+
+fn run(name: &[u8], ram: &mut [u8], marks: &mut [u8], bench: bool, size: u32) {
+    let mut out = io::large_buffer();
+    let place = answers::title(&mut out, 0, name, size);
+    let s = all_lines(ram, marks, &mut out, begun(bench, size, place));
+    let t = end(&mut out, s);
+    finish(name, &out, t);
 }
 
 // L = 65,536.
 pub fn bench() {
     let mut ram = [0u8; 65536];
     let mut marks = [0u8; 4096];
-    let mut out = io::large_buffer();
-    let place = answers::title(&mut out, 0, b"bench", 65536);
-    let s = all_lines(&mut ram, &mut marks, &mut out, begun(true, 65536, place));
-    let t = bench_end(&mut out, s);
-    flush(&out, t);
-}
-
-fn replay_on(ram: &mut [u8], marks: &mut [u8], size: u32) {
-    let mut out = io::large_buffer();
-    let place = answers::title(&mut out, 0, b"replay", size);
-    let s = all_lines(ram, marks, &mut out, begun(false, size, place));
-    flush(&out, s);
+    run(b"bench", &mut ram, &mut marks, true, 65536);
 }
 
 fn is_text(a: &[u8], b: &[u8]) -> bool {
@@ -529,13 +519,13 @@ fn size_asked() -> u32 {
 fn replay_small() {
     let mut ram = [0u8; 65536];
     let mut marks = [0u8; 4096];
-    replay_on(&mut ram, &mut marks, 65536);
+    run(b"replay", &mut ram, &mut marks, false, 65536);
 }
 
 fn replay_large() {
     let mut ram = [0u8; 524288];
     let mut marks = [0u8; 32768];
-    replay_on(&mut ram, &mut marks, 524288);
+    run(b"replay", &mut ram, &mut marks, false, 524288);
 }
 
 // L is the program's argument.

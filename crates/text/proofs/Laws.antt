@@ -1,6 +1,6 @@
 -- Laws of text put into lent bytes. Assumes nothing.
 use mathlib.Core.Path.{_≡_, refl, sym, ap, _∙_}
-use mathlib.Core.Bool.{Bool, true, false}
+use mathlib.Core.Bool.{Bool, true, false, cond}
 use mathlib.Core.List.{List, [], _∷_, _++_}
 use Prim.Native.Nat.{ℕ, suc, _+_, _≤_, _<_}
 use native.Mathlib.Numerals.{add-one}
@@ -9,7 +9,7 @@ use native.Mathlib.Omega.{arith}
 use borrow.Author.Tests.{lt-ltb, le-ltb}
 use lib.ListN.{length, take, drop, getD, set, length-set}
 use lib.Seq.{drop-cons, drop-length, sets, sets-eq}
-use Rattle.text.specs.Text.{Page, page, putOf, printedOf, Prints, flagText}
+use Rattle.text.specs.Text.{Page, page, putOf, printedOf, Prints}
 
 -- ---- one byte
 
@@ -36,11 +36,12 @@ prints-then {s} {t} {o} {o′} {o″} {a} p q = record { is = printed-append s t
 pub prints-byte : {b : ℕ} {t o o′ o″ : List ℕ} {a a′ a″ : ℕ} → Prints (b ∷ []) o a o′ a′ → Prints t o′ a′ o″ a″ → Prints (b ∷ t) o a o″ a″
 prints-byte p q = prints-then p q
 
-pub prints-set : (b : Bool) {o o′ : List ℕ} {a a′ : ℕ} → b ≡ true → Prints (49 ∷ []) o a o′ a′ → Prints (flagText b) o a o′ a′
-prints-set b e p = rw e p
+-- one text or another, by a test
+pub prints-set : (b : Bool) (s t : List ℕ) {o o′ : List ℕ} {a a′ : ℕ} → b ≡ true → Prints s o a o′ a′ → Prints (cond b s t) o a o′ a′
+prints-set b s t e p = rw e p
 
-pub prints-clear : (b : Bool) {o o′ : List ℕ} {a a′ : ℕ} → b ≡ false → Prints (48 ∷ []) o a o′ a′ → Prints (flagText b) o a o′ a′
-prints-clear b e p = rw e p
+pub prints-clear : (b : Bool) (s t : List ℕ) {o o′ : List ℕ} {a a′ : ℕ} → b ≡ false → Prints t o a o′ a′ → Prints (cond b s t) o a o′ a′
+prints-clear b s t e p = rw e p
 
 -- ---- what is left of a text while it is put
 

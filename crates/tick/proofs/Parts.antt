@@ -2,11 +2,11 @@
 use mathlib.Core.Path.{_≡_, sym, ap, _∙_}
 use mathlib.Core.Bool.{Bool, true, false, cond, _&&_, not}
 use mathlib.Core.List.{List}
-use Prim.Native.Nat.{ℕ, _+_, _*_, _%_, _^_}
+use Prim.Native.Nat.{ℕ, _+_, _*_, _%_, _^_, _≤_}
 use native.Mathlib.Omega.{arith}
 use borrow.Author.Tests.{eq-eqb, ne-eqb, not-true, not-false}
 use lib.Dec.{eqb}
-use lib.ListN.{getD, set}
+use lib.ListN.{length, getD, set, List·getD-eq-default}
 use lib.IntN.{ℤ, pos, _+ℤ_}
 use Rattle.fixed.specs.Bits.{bit}
 use Rattle.fixed.specs.Signed.{signed}
@@ -168,11 +168,15 @@ unfolding tickOf closeOf
 tick-does s vs r w left right {z} {us} {sums} ez dv dc =
     does-bind _ (rw ez at dv) (carried _ _ _ (λ (c : Closing). record { answer = c .pair; state = joinOf s us (c .rest) w }) (rw ez at dc))
 
--- l, r are the CD's pair, x, y the pair that is heard, c is SPUCNT as the calls have them
-pub finish-does : (regs : List ℕ) (size : ℕ) (g : Going) (hs cd : List ℤ) (k : ℕ) (before : List ℤ) (h : Going) {m m′ : Mem} {l r x y : ℤ} {p : Pair} {c : ℕ} → l ≡ getD cd (k * 2) (pos 0)
+-- past the CD's end there is silence
+pub cd-past : (cd : List ℤ) (i : ℕ) → length cd ≤ i → pos 0 ≡ getD cd i (pos 0)
+cd-past cd i h = sym (List·getD-eq-default cd (pos 0) h)
+
+-- l, r are the CD's pair, c is SPUCNT as the calls have them
+pub finish-does : (regs : List ℕ) (size : ℕ) (g : Going) (hs cd : List ℤ) (k : ℕ) (before : List ℤ) (h : Going) {m m′ : Mem} {after : List ℤ} {l r : ℤ} {p : Pair} {c : ℕ} → l ≡ getD cd (k * 2) (pos 0)
     → r ≡ getD cd (k * 2 + 1) (pos 0) → Does (closeOf regs size (g .rest) (g .noise) (mixedOf regs hs 24) l r) m (record { pair = p; rest = h .rest }) m′
-    → x ≡ p .left → y ≡ p .right → c ≡ registerAt regs 0x1AA → h .noise ≡ tickedOf (h .rest .noise) c
+    → after ≡ set (set before (k * 2) (p .left)) (k * 2 + 1) (p .right) → c ≡ registerAt regs 0x1AA → h .noise ≡ tickedOf (h .rest .noise) c
     → h .irq ≡ cond (h .watch .latch && not (g .watch .latch)) k (g .irq) → h .doubt ≡ cond (h .watch .doubt && not (g .watch .doubt)) k (g .doubt)
-    → Finishes regs size g hs cd k m before h m′ (set (set before (k * 2) x) (k * 2 + 1) y)
-finish-does regs size g hs cd k before h {p} el er d ex ey ec ez ei ed =
-    record { pair = p; closes = rw (el, er) at d; out = rw (ex, ey); noise = rw (← ec) ez; irq = ei; doubt = ed }
+    → Finishes regs size g hs cd k m before h m′ after
+finish-does regs size g hs cd k before h {p} el er d eo ec ez ei ed =
+    record { pair = p; closes = rw (el, er) at d; out = eo; noise = rw (← ec) ez; irq = ei; doubt = ed }

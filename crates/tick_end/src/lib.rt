@@ -2,7 +2,8 @@
 ghost use mathlib.Core.Path.{_≡_};
 ghost use mathlib.Core.Bool.{cond};
 ghost use Prim.Native.Nat.{_+_, _*_, _<_};
-ghost use lib.ListN.{length};
+ghost use lib.ListN.{length, getD, set};
+ghost use lib.IntN.{pos};
 ghost use Rattle.soundram.specs.Address.{Lent};
 ghost use Rattle.soundram.specs.Program.{Does, memOf};
 ghost use Rattle.voices.specs.Voices.{Volumes, SumsIn, mixedOf};
@@ -172,6 +173,26 @@ fn reported(here: bool, k: usize, before: usize) -> usize
     before
 }
 
+// A sample of the CD, 0 past its end.
+fn cd_at(cd: &[i16], i: usize) -> i16
+    ensures { λ r. ⌜ r ≡ getD (now (cd .entry)) i (pos 0) ⌝ }
+{
+    if i < cd.len() {
+        return cd[i];
+    }
+    0
+}
+
+fn put_pair(out: &mut [i16], i: usize, pair: Pair)
+    requires { ⌜ i + 1 < length (now out) ⌝ }
+    ensures { λ _. ⌜ now (out .exit) ≡ set (set (now (out .entry)) i (pair .left)) (i + 1) (pair .right) ⌝ }
+{
+    let left = pair.left;
+    let right = pair.right;
+    out[i] = left;
+    out[i + 1] = right;
+}
+
 // Tick k ends: its pair goes to the buffer, and the next tick's noise is made.
 pub fn finish(
     regs: &[u16; 256],
@@ -186,12 +207,12 @@ pub fn finish(
     k: usize,
     w: Watch,
 ) -> Going
-    requires { ⌜ Lent size (now ram) (now marks) × CaptureIn (g .rest .capture) × PlaceIn size (baseAt size (now regs) .0) (g .rest .reverb .place .0) × (k * 2 + 1 < length (now cd)) × (length (now cd) ≡ length (now out)) × Volumes (now regs) (now volumes) ⌝ }
+    requires { ⌜ Lent size (now ram) (now marks) × CaptureIn (g .rest .capture) × PlaceIn size (baseAt size (now regs) .0) (g .rest .reverb .place .0) × (k * 2 + 1 < length (now out)) × Volumes (now regs) (now volumes) ⌝ }
     ensures { λ r. ⌜ Finishes (now (regs .entry)) size g amplitudes (now (cd .entry)) k (memOf (now (ram .entry)) (now (marks .entry)) w) (now (out .entry)) r (memOf (now (ram .exit)) (now (marks .exit)) (r .watch)) (now (out .exit)) ⌝ }
 {
     let i = k * 2;
-    let left = cd[i];
-    let right = cd[i + 1];
+    let left = cd_at(cd, i);
+    let right = cd_at(cd, i + 1);
     let c = close(
         regs,
         size,
@@ -208,10 +229,7 @@ pub fn finish(
     let pair = c.pair;
     let rest = c.rest;
     let watch = c.watch;
-    let heard_left = pair.left;
-    let heard_right = pair.right;
-    out[i] = heard_left;
-    out[i + 1] = heard_right;
+    put_pair(out, i, pair);
     let noise = noise::tick(rest.noise, registers::at(regs, 0x1AA));
     Going {
         rest,

@@ -2,7 +2,7 @@ use borrow.Author.Needs.{needs}
 use Rattle.chip.proofs.Tests.{in-range}
 use Rattle.spu.proofs.Shape.{shaped}
 use Rattle.spu.proofs.Lent.{lent-ok, lent-all}
-use Rattle.host.proofs.Runs.{run-no, run-yes, run-equal}
+use Rattle.host.proofs.Runs.{run-no, run-yes}
 use Rattle.host.proofs.run.Statement.{statement}
 use Rattle.host.proofs.run.Tie as tie
 
@@ -21,7 +21,7 @@ run-requires c κs =
     let b = a .before .before .before in
     let e = a .run-number .ensures in
     let z = d .if1 .left in
-    (lent-all (b .args .s) _ _ _ e z, in-range _ (lent-ok (b .args .s) _ _ _ e z) (shaped _ (b .good .0)), run-equal (b .args .s) _ _ _ _ e z)
+    (lent-all (b .args .s) _ _ _ e z, in-range _ (lent-ok (b .args .s) _ _ _ e z) (shaped _ (b .good .0)))
 
 same-length : tie.Need-same-length
 same-length c = search needs

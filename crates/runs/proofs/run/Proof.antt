@@ -1,10 +1,10 @@
 use mathlib.Core.Path.{refl, sym, _∙_}
 use mathlib.Core.Bool.{not}
-use Prim.Native.Nat.{_+_, _-_, _*_, _<_}
+use Prim.Native.Nat.{_+_, _-_, _*_, _^_, _<_}
 use native.Mathlib.Omega.{arith}
 use borrow.Author.Needs.{needs}
 use borrow.Author.Tests.{ltb-false}
-use lib.ListN.{length, getD}
+use lib.ListN.{getD}
 use mir.Syntax.{w16}
 use mir.Val.{toZ}
 use Rattle.fixed.proofs.Bools.{or-first, or-rest}
@@ -57,8 +57,8 @@ finish-requires c κs =
     let z = o .before .before .before .before .before .before .before .before .before .before .before .before .before .before .before .before .before .before .before in
     let p = o .loop .inv in
     let h = t .loop-test .taken in
-    let e = z .pre .2 in
-    (p .lent, p .range .capture, p .range .place, omega arith, e ∙ sym (p .len), o .before .before .before .before .before .before .before .volumes .ensures)
+    let e = p .len in
+    (p .lent, p .range .capture, p .range .place, omega arith, o .before .before .before .before .before .before .before .volumes .ensures)
 
 add-k : tie.Need-add-k Inv-loop μ-loop
 add-k c =
@@ -66,8 +66,7 @@ add-k c =
     let o = t .before in
     let z = o .before .before .before .before .before .before .before .before .before .before .before .before .before .before .before .before .before .before .before in
     let h = t .loop-test .taken in
-    let e = z .pre .2 in
-    let b : o .loop .k + 1 < length (z .args .cd .now) = omega arith in
+    let b : o .loop .k + 1 < 2 ^ 64 = omega (arith, z .good .1 .1 .1 .1 .0) in
     search (needs, b)
 
 loop-less : tie.Need-loop-less Inv-loop μ-loop

@@ -1,7 +1,6 @@
-use Prim.Native.Nat.{_+_, _*_, _<_}
-use native.Mathlib.Omega.{arith}
+use mathlib.Core.Path.{_∙_}
+use mir.Facts.{toZ-ofZ}
 use borrow.Author.Needs.{needs}
-use lib.ListN.{length}
 use Rattle.soundram.proofs.Programs.{does-kept}
 use Rattle.tick.proofs.Parts.{finish-does}
 use Rattle.tick_end.proofs.finish.Statement.{statement}
@@ -10,57 +9,20 @@ use Rattle.tick_end.proofs.finish.Tie as tie
 mul-i : tie.Need-mul-i
 mul-i c = search needs
 
-mul-left : tie.Need-mul-left
-mul-left c = search needs
+cd-at-requires : tie.Need-cd-at-requires
+cd-at-requires c κs = search needs
 
-shared-slice-copy-out-left : tie.Need-shared-slice-copy-out-left
-shared-slice-copy-out-left c = search needs
+add-cd-at : tie.Need-add-cd-at
+add-cd-at c = search needs
 
-add-right : tie.Need-add-right
-add-right c = search needs
-
-mul-right : tie.Need-mul-right
-mul-right c = search needs
-
-shared-slice-copy-out-right : tie.Need-shared-slice-copy-out-right
-shared-slice-copy-out-right c = search needs
+cd-at-requires-2 : tie.Need-cd-at-requires-2
+cd-at-requires-2 c κs = search needs
 
 close-requires : tie.Need-close-requires
-close-requires c κs =
-    let z = c .before .before .before .before .before .before in
-    (z .pre .0, z .pre .1, z .pre .2, z .pre .5)
+close-requires c κs = search needs
 
-mul-heard-left : tie.Need-mul-heard-left
-mul-heard-left c =
-    let z = c .before .before .before .before .before .before .before .before .before .before .before .before .before .before .before .before in
-    let h = z .pre .3 in
-    let b : z .args .k * 2 < length (z .args .cd .now) = omega arith in
-    search (needs, b, z .good)
-
-slice-set-from-heard-left : tie.Need-slice-set-from-heard-left
-slice-set-from-heard-left c = search needs
-
-add-heard-right : tie.Need-add-heard-right
-add-heard-right c =
-    let z = c .before .before .before .before .before .before .before .before .before .before .before .before .before .before .before .before in
-    let h = z .pre .3 in
-    let b : z .args .k * 2 + 1 < length (z .args .cd .now) = omega arith in
-    search (needs, b, z .good)
-
-mul-heard-right : tie.Need-mul-heard-right
-mul-heard-right c =
-    let z = c .before .before .before .before .before .before .before .before .before .before .before .before .before .before .before .before in
-    let h = z .pre .3 in
-    let b : z .args .k * 2 + 1 < length (z .args .cd .now) = omega arith in
-    search (needs, b, z .good)
-
-slice-set-from-heard-right : tie.Need-slice-set-from-heard-right
-slice-set-from-heard-right c =
-    let z = c .before .before .before .before .before .before .before .before .before .before .before .before .before .before .before .before in
-    let h = z .pre .3 in
-    let e = z .pre .4 in
-    let b : z .args .k * 2 + 1 < length (z .args .out .now) = omega arith in
-    search (needs, b)
+put-pair-requires : tie.Need-put-pair-requires
+put-pair-requires c κs = search needs
 
 at-requires : tie.Need-at-requires
 at-requires c κs = search needs
@@ -76,12 +38,12 @@ reported-requires-2 c κs = search needs
 
 same-length : tie.Need-same-length
 same-length c =
-    let g = c .before .before .before .before .before .before .before .before .before .before .before .before .before .before .before .before .before in
+    let g = c .before .before .before .before .before .before .before .before .before .before .before .before .before .before .before .before .before .before in
     does-kept (g .close .ensures) .ram
 
 same-length-2 : tie.Need-same-length-2
 same-length-2 c =
-    let g = c .before .before .before .before .before .before .before .before .before .before .before .before .before .before .before .before .before in
+    let g = c .before .before .before .before .before .before .before .before .before .before .before .before .before .before .before .before .before .before in
     does-kept (g .close .ensures) .marks
 
 same-length-3 : tie.Need-same-length-3
@@ -92,29 +54,24 @@ returns c =
     let a = c .before .before .before in
     let b = a .before .before .before in
     let d = b .before in
-    let e = d .before in
-    let f = e .before in
-    let g = f .before .before .before .before .before .before .before .before in
-    let h = g .before .before .before in
+    let e = d .before .before in
+    let g = e .before .before .before .before .before .before .before .before .before in
+    let i = g .before in
+    let h = i .before in
     let j = h .before in
-    finish-does _ _ _ _ _ _ _ _ (search (needs, j .left .given)) (search (needs, h .right .given)) (g .close .ensures) (search (needs, f .struct-told .given)) (search (needs, e .struct-told2 .given)) (d .at .ensures) (b .tick .ensures) (a .reported .ensures) (c .reported2 .ensures)
+    let k = j .before in
+    finish-does _ _ _ _ _ _ _ _ (toZ-ofZ (search needs) ∙ k .cd-at .ensures) (toZ-ofZ (search needs) ∙ j .cd-at2 .ensures) (g .close .ensures) (e .put-pair .ensures) (d .at .ensures) (b .tick .ensures) (a .reported .ensures) (c .reported2 .ensures)
 
 pub finish-spec : {M : Type 1} → statement M
 finish-spec =
     tie.close
     (tie.spec
     mul-i
-    mul-left
-    shared-slice-copy-out-left
-    add-right
-    mul-right
-    shared-slice-copy-out-right
+    cd-at-requires
+    add-cd-at
+    cd-at-requires-2
     close-requires
-    mul-heard-left
-    slice-set-from-heard-left
-    add-heard-right
-    mul-heard-right
-    slice-set-from-heard-right
+    put-pair-requires
     at-requires
     tick-requires
     reported-requires
