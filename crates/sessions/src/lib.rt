@@ -129,15 +129,7 @@ fn inward(
     let n = least(count, 33);
     let r = spu_transfer::transfer_in(s.state, ram, marks, &values[..n]);
     let state = r.state;
-    let place = answers::inward_answer(
-        out,
-        s.place,
-        s.bench,
-        r.number,
-        r.count,
-        r.irq,
-        r.doubt,
-    );
+    let place = answers::inward_answer(out, s.place, s.bench, r.number, r.count, r.irq, r.doubt);
     changed(s, state, place)
 }
 
