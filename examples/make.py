@@ -7,9 +7,10 @@ import math
 import pathlib
 import random
 import sys
+from typing import NamedTuple, Optional
 
 HERE = pathlib.Path(__file__).parent
-RATE = 44100                        # ticks, and samples at pitch 1000h, in a second
+RATE = 44100                        # ticks in a second; a voice at pitch 1000h plays as many samples
 
 # ---- ADPCM: 28 samples in a block of 16 bytes
 
@@ -41,13 +42,18 @@ def best_block(samples, old, older, filters):
     return min(encode_block(samples, number, shift, old, older) for number in filters for shift in range(13))
 
 
-def encode(samples, loop=None, end_flag=True):
-    """The blocks of a sound that repeats from sample loop on, or is played once (None).
+def block_bytes(number, shift, flags, nibbles):
+    pairs = zip(nibbles[::2], nibbles[1::2])
+    return bytes((number << 4 | shift, flags, *(low & 15 | (high & 15) << 4 for low, high in pairs)))
 
-    The first block of a loop has filter 0, which looks at no sample before it: so every round of the loop is the same.
-    end_flag=False leaves the last block's end flag out: the voice then runs on into whatever lies behind.
+
+def encode(samples, loop=None, end_flag=True):
+    """The blocks of a sound that repeats from sample loop on, or plays once (None).
+
+    The first block of a loop takes filter 0, which looks at no sample before it, so every round sounds the same.
+    end_flag=False leaves the last block's end flag out: the voice runs on into whatever lies behind.
     """
-    blocks, old, older = bytearray(), 0, 0
+    blocks, old, older = b"", 0, 0
     for at in range(0, len(samples), BLOCK):
         first, last = at == loop, at + BLOCK >= len(samples)
         piece = (samples[at:at + BLOCK] + [0] * BLOCK)[:BLOCK]
@@ -55,23 +61,14 @@ def encode(samples, loop=None, end_flag=True):
         flags = START if first else 0
         if last and end_flag:
             flags |= END if loop is None else END | REPEAT
-        blocks += bytes((number << 4 | shift, flags))
-        blocks += bytes(low & 15 | (high & 15) << 4 for low, high in zip(nibbles[::2], nibbles[1::2]))
-    return bytes(blocks)
+        blocks += block_bytes(number, shift, flags, nibbles)
+    return blocks
 
 
-# ---- waves: lists of numbers, scaled to what a sample holds
-
-PEAK = 28000
-
-
-def scaled(wave, peak=PEAK):
-    most = max(abs(x) for x in wave)
-    return [round(x * peak / most) for x in wave]
-
+# ---- waves: lists of numbers of any size
 
 def sines(phase, partials):
-    """Partials {number: strength} of a cycle, at a phase counted in cycles."""
+    """Partials {number: strength}, at a phase counted in cycles."""
     return sum(strength * math.sin(2 * math.pi * number * phase) for number, strength in partials.items())
 
 
@@ -80,7 +77,7 @@ def one_cycle(length, partials):
 
 
 def flute_wave(length):
-    """A sine with a little breath of the next three partials."""
+    """A sine with a little of the next three partials."""
     return one_cycle(length, {1: 1, 2: 0.22, 3: 0.12, 4: 0.03})
 
 
@@ -90,87 +87,100 @@ def saw_wave(length):
 
 
 def pluck_wave(length, cycles):
-    """A string: bright where it is plucked; the higher a partial, the sooner it dies. The envelope does the rest."""
+    """A string: the higher a partial, the sooner it dies. The last cycle repeats; the envelope fades it."""
     def strengths(cycle):
         return {k: math.exp(-5 * (k - 1) * cycle / cycles) / k for k in range(1, 13)}
     return [sines(i / length, strengths(min(i / length, cycles - 1))) for i in range(length * cycles)]
 
 
 def bell_wave(length, cycles):
-    """A metal bar: a sine shaken 3.5 times as fast (frequency modulation). The shaking dies, and a sine is left."""
+    """A metal bar: a sine, its phase shaken 3.5 times as fast. The shaking dies, and the last cycle is a sine."""
     def at(phase):
         shake = 2.2 * math.exp(-6 * phase / cycles) if phase < cycles - 1 else 0
         return math.sin(2 * math.pi * phase + shake * math.sin(2 * math.pi * 3.5 * phase))
     return [at(i / length) for i in range(length * cycles)]
 
 
-def ringing(wave, rate, start, strength, frequency, seconds):
-    """Adds to a wave a tone that is struck at start and dies away."""
+def strike(wave, rate, start, strength, hertz, seconds):
+    """Adds a tone to a wave, struck at start; after so many seconds a third of it is left."""
     first = round(start * rate)
     for i in range(first, min(len(wave), first + round(7 * seconds * rate))):
         t = (i - first) / rate
-        wave[i] += strength * math.exp(-t / seconds) * math.sin(2 * math.pi * frequency * t)
+        wave[i] += strength * math.exp(-t / seconds) * math.sin(2 * math.pi * hertz * t)
+
+
+def creak(wave, rate, until, chance):
+    """A hinge that sticks and slips, slowly, faster, slowly again. Each slip strikes the wood."""
+    slip = 0.0
+    while slip < until:
+        way = slip / until
+        swell = 0.15 + 0.35 * math.sin(math.pi * way)
+        strike(wave, rate, slip, swell, 620 + 260 * way, 0.006)
+        strike(wave, rate, slip, swell / 2, 1480 + 300 * way, 0.004)
+        slip += (1 + 0.25 * chance.random()) / (45 + 65 * math.sin(math.pi * way))
+
+
+def slam(wave, rate, start, chance):
+    """The leaf, the frame, the latch, and the air between them."""
+    strike(wave, rate, start, 1.3, 78, 0.06)
+    strike(wave, rate, start, 0.6, 187, 0.03)
+    strike(wave, rate, start + 0.03, 0.3, 1150, 0.008)
+    for i in range(round(start * rate), len(wave)):
+        wave[i] += 0.5 * math.exp(-(i / rate - start) / 0.02) * chance.uniform(-1, 1)
 
 
 def door_wave(rate, seconds=0.95, shuts=0.62):
-    """A door: the hinge creaks (wood that slips, 45 to 110 times a second), then the door falls shut."""
+    """A door that creaks and falls shut; it fades to silence at its end."""
     chance = random.Random(1996)
     wave = [0.0] * round(rate * seconds)
-    slip = 0.0
-    while slip < shuts - 0.1:
-        way = slip / (shuts - 0.1)
-        swell = 0.15 + 0.35 * math.sin(math.pi * way)
-        ringing(wave, rate, slip, swell, 620 + 260 * way, 0.006)
-        ringing(wave, rate, slip, swell / 2, 1480 + 300 * way, 0.004)
-        slip += (1 + 0.25 * chance.random()) / (45 + 65 * math.sin(math.pi * way))
-    ringing(wave, rate, shuts, 1.3, 78, 0.06)               # the leaf
-    ringing(wave, rate, shuts, 0.6, 187, 0.03)              # the frame
-    ringing(wave, rate, shuts + 0.03, 0.3, 1150, 0.008)     # the latch
-    for i in range(round(shuts * rate), len(wave)):         # the air
-        wave[i] += 0.5 * math.exp(-(i / rate - shuts) / 0.02) * chance.uniform(-1, 1)
+    creak(wave, rate, shuts - 0.1, chance)
+    slam(wave, rate, shuts, chance)
     return [x * min(1, (len(wave) - i) / (0.08 * rate)) for i, x in enumerate(wave)]
 
 
-class Sample:
-    """A sound for a voice: its blocks, and the samples in a cycle of its wave, which set the pitch of a note."""
+# ---- samples
 
-    def __init__(self, file, blocks, cycle=0):
-        self.file, self.blocks, self.cycle = file, blocks, cycle
+class Sample(NamedTuple):
+    file: Optional[str]             # None: the scripts carry it in lines s
+    blocks: bytes
+    cycle: int = 0                  # samples in a cycle of its wave, where it has a pitch
 
 
-def looped(file, wave, cycle):
+def scaled(wave, peak=28000):
+    most = max(abs(x) for x in wave)
+    return [round(x * peak / most) for x in wave]
+
+
+def looped(file, wave, cycle, peak=28000):
     """A sample whose last cycle repeats."""
-    return Sample(file, encode(scaled(wave), loop=len(wave) - cycle), cycle)
+    return Sample(file, encode(scaled(wave, peak), loop=len(wave) - cycle), cycle)
 
 
-DOOR_RATE = RATE // 4
-
+SINE = looped(None, one_cycle(112, {1: 1}), 112)
 FLUTE = looped("flute.adpcm", flute_wave(112), 112)
 SAW = looped("saw.adpcm", saw_wave(112), 112)
 PLUCK = looped("pluck.adpcm", pluck_wave(56, 48), 56)
 BELL = looped("bell.adpcm", bell_wave(56, 64), 56)
-SINE = looped("sine.adpcm", one_cycle(112, {1: 1}), 112)
-SLOW_SINE = Sample("vibrato.adpcm", encode(scaled(one_cycle(28, {1: 1}), 448), loop=0), 28)
-LEVEL = Sample("level.adpcm", encode([0x7000] * BLOCK, loop=0))
+TREMBLE = looped("tremble.adpcm", one_cycle(28, {1: 1}), 28, peak=448)     # as a modulator: a quarter of a half tone
+LEVEL = Sample("level.adpcm", encode([0x7000] * BLOCK, loop=0))            # as a modulator: nearly an octave up
 SILENCE = Sample("silence.adpcm", encode([0] * BLOCK, loop=0))
-DOOR = Sample("door.adpcm", encode(scaled(door_wave(DOOR_RATE)), end_flag=False))
+DOOR = Sample("door.adpcm", encode(scaled(door_wave(RATE // 4)), end_flag=False))
 ZEROS = Sample("zeros.bin", bytes(4096))
-FILES = (FLUTE, SAW, PLUCK, BELL, SLOW_SINE, LEVEL, SILENCE, DOOR, ZEROS)
+FILES = (FLUTE, SAW, PLUCK, BELL, TREMBLE, LEVEL, SILENCE, DOOR, ZEROS)
 
-# ---- notes, volumes, envelopes: what the registers take
+# ---- notes, volumes, envelopes, noise: what the registers take
 
 NAMES = {"C": 0, "D": 2, "E": 4, "F": 5, "G": 7, "A": 9, "B": 11}
 
 
 def frequency(note):
-    """Of a name like A4 (440 Hz), F#3 or Bb2."""
-    name, octave = note[:-1], int(note[-1])
-    half_tones = NAMES[name[0]] + name.count("#") - name.count("b") + 12 * octave
+    """Of a name like A4 (440 Hz) or F#3."""
+    half_tones = NAMES[note[0]] + note.count("#") + 12 * int(note[-1])
     return 440 * 2 ** ((half_tones - 57) / 12)
 
 
 def pitch(hertz, cycle):
-    """The pitch register: 1000h plays 44,100 samples a second, and a cycle of the wave has so many samples."""
+    """At pitch 1000h a voice plays 44,100 samples a second."""
     return round(hertz * cycle * 0x1000 / RATE)
 
 
@@ -180,28 +190,38 @@ def sides(volume, pan=0.0):
     return tuple(round(0x3FFF * volume * side) for side in (math.cos(angle), math.sin(angle)))
 
 
-HOLD = None                         # a sustain that stays where it is
+class Envelope(NamedTuple):
+    low: int
+    high: int
+    words: str
 
 
-def envelope(attack, decay=15, level=15, sustain=HOLD, release=11):
-    """The two ADSR registers, from the shifts of the four phases and the level (0 to 15) that ends the decay.
+def envelope(attack, sustain=None, release=11):
+    """From the shifts of attack, sustain and release; sustain None holds the level. The decay is next to nothing.
 
-    A linear attack of shift n takes 106 ms * 2^(n-11). Falls are exponential: after 93 ms * 2^(n-11) a third is left.
+    An attack of shift n takes 106 ms * 2^(n-11). Falls are exponential: after 93 ms * 2^(n-11) a third is left.
     """
-    low = attack << 10 | decay << 4 | level
-    high = 0x1FC0 if sustain is HOLD else 0xC000 | sustain << 8
-    return low, high | 0x20 | release
+    held = sustain is None
+    fall = "hold" if held else f"fall {93 * 2 ** (sustain - 11):.3g} ms"
+    return Envelope(attack << 10 | 0xFF, (0x1FC0 if held else 0xC000 | sustain << 8) | 0x20 | release,
+                    f"attack {106 * 2 ** (attack - 11):.3g} ms, {fall}, release {93 * 2 ** (release - 11):.3g} ms")
+
+
+def noise(shift, step):
+    """The speed of the noise, a part of SPUCNT: the higher, the brighter."""
+    return shift << 10 | step << 8
 
 
 # ---- scripts
 
-ON, REVERB, INWARD = 0xC000, 0x80, 0x10     # SPUCNT: chip and sound on, reverb writes, transfers inward
-SAMPLES_FROM = 0x1000                       # below lie the four captures, which the chip writes by itself
+ON, REVERB, INWARD = 0xC000, 0x80, 0x10     # SPUCNT: chip and sound on; the reverb writes; transfers inward
+SAMPLES_FROM = 0x1000                       # below lie the captures, which the chip writes by itself
 
 
-def noise(shift, step):
-    """The noise generator's speed, in SPUCNT."""
-    return shift << 10 | step << 8
+def listed(numbers):
+    """voice 3; voices 3 and 4; voices 3, 4 and 5"""
+    *head, last = map(str, numbers)
+    return f"voices {', '.join(head)} and {last}" if head else f"voice {last}"
 
 
 class Script:
@@ -213,22 +233,17 @@ class Script:
         self.places = {}
         self.say(*head)
 
-    def text(self):
-        return "\n".join(self.lines) + "\n"
+    def say(self, *comments):
+        self.lines += ["# " + comment for comment in comments]
 
-    def say(self, *comment):
-        self.lines += ["# " + line if line else "#" for line in comment]
-
-    def part(self, *comment):
-        """A new part, after a blank line."""
+    def part(self, *comments):
         self.lines.append("")
-        self.say(*comment)
+        self.say(*comments)
 
     def write(self, offset, value):
         self.lines.append(f"w {offset:X} {value:04X}")
 
     def wait(self, ticks):
-        ticks = round(ticks)
         while ticks > 0:
             self.lines.append(f"t {min(ticks, 65535)}")
             ticks -= 65535
@@ -240,34 +255,41 @@ class Script:
 
     def load(self, *samples):
         """Samples from their files."""
+        self.part("Samples from files to sound RAM, one behind the other.")
         for sample in samples:
             self.lines.append(f"l {self.place(sample):X} samples/{sample.file}")
 
     def send(self, *samples):
-        """Samples in lines s, one behind the other, from the transfer address on."""
+        """Samples in lines s."""
         self.write(0x1A6, self.free // 8)
         for sample in samples:
             self.place(sample)
             halfwords = [f"{high:02X}{low:02X}" for low, high in zip(sample.blocks[::2], sample.blocks[1::2])]
-            for at in range(0, len(halfwords), 32):
-                self.lines.append("s " + " ".join(halfwords[at:at + 32]))
+            self.lines += ["s " + " ".join(halfwords[at:at + 32]) for at in range(0, len(halfwords), 32)]
 
-    def volume(self, voice, left, right):
+    def main_volume(self):
+        self.part("Main volume, left and right: full.")
+        self.write(0x180, 0x3FFF)
+        self.write(0x182, 0x3FFF)
+
+    def control(self, bits, *comment):
+        self.part("Control: the chip on, its sound on" + "".join(comment) + ".")
+        self.write(0x1AA, bits)
+
+    def voice(self, voice, sample, adsr, left, right, speed=None):
+        """All of a voice, or all but its pitch."""
         self.write(0x10 * voice, left)
         self.write(0x10 * voice + 2, right)
-
-    def voice(self, voice, sample, adsr, left, right):
-        """All of a voice but its pitch."""
-        self.volume(voice, left, right)
+        if speed is not None:
+            self.write(0x10 * voice + 4, speed)
         self.write(0x10 * voice + 6, self.places[sample] // 8)
-        self.write(0x10 * voice + 8, adsr[0])
-        self.write(0x10 * voice + 0xA, adsr[1])
+        self.write(0x10 * voice + 8, adsr.low)
+        self.write(0x10 * voice + 0xA, adsr.high)
 
     def flags(self, offset, voices):
-        """A pair of flag registers: a bit for each voice. Key writes go where a bit is set."""
+        """A bit for each voice: those of voices 16 to 23 in the second register of the pair."""
         bits = sum(1 << voice for voice in set(voices))
-        key = offset < 0x190
-        if bits & 0xFFFF or not key:
+        if bits & 0xFFFF:
             self.write(offset, bits & 0xFFFF)
         if bits >> 16:
             self.write(offset + 2, bits >> 16)
@@ -278,48 +300,61 @@ class Script:
     def key_off(self, *voices):
         self.flags(0x18C, voices)
 
-    def main_volume(self):
-        self.part("Main volume, left and right: full.")
-        self.write(0x180, 0x3FFF)
-        self.write(0x182, 0x3FFF)
+    def modulated(self, *voices):
+        self.part(f"Pitch modulation by the voice below: {listed(voices)}.")
+        self.flags(0x190, voices)
+
+    def noisy(self, *voices):
+        self.part(f"Noise in place of the sample: {listed(voices)}.")
+        self.flags(0x194, voices)
 
 
-# Registers 1C0h to 1FEh, and the bytes of the work area, of two rooms on the public page.
-HALL = (0xADE0, """
+class Room(NamedTuple):
+    """A reverb of the public page: the bytes of its work area, and registers 1C0h to 1FEh."""
+    name: str
+    size: int
+    registers: str
+
+
+HALL = Room("Hall", 0xADE0, """
     01A5 0139 6000 5000 4C00 B800 BC00 C000 6000 5C00 15BA 11BB 14C2 10BD 11BC 0DC1
     11C0 0DC3 0DC0 09C1 0BC4 07C1 0A00 06CD 09C2 05C1 05C0 041A 0274 013A 8000 8000""")
-STUDIO = (0x6FE0, """
+STUDIO = Room("Studio Large", 0x6FE0, """
     00E3 00A9 6F60 4FA8 BCE0 4510 BEF0 A680 5680 52C0 0DFB 0B58 0D09 0A3C 0BD9 0973
     0B59 08DA 08D9 05E9 07EC 04B0 06EF 03D2 05EA 031D 031C 0238 0154 00AA 8000 8000""")
 
 
-def set_reverb(script, name, room, loud, voices):
-    """A room at the top of sound RAM, over whole files of zeros; the voices that are heard in it."""
-    size, registers = room
-    pieces = -(-size // len(ZEROS.blocks))
-    base = 0x80000 - pieces * len(ZEROS.blocks)
-    script.part(f"Reverb: {name}. Its work area, {base:X}h to 7FFFFh, has to be loaded, too: zeros.",
-                "It reads before it writes: what lies there would be heard.")
-    for k in range(pieces):
-        script.lines.append(f"l {base + k * len(ZEROS.blocks):X} samples/{ZEROS.file}")
-    script.say("Where the work area begins, the room, how loud it is left and right, the voices in it.")
+def set_reverb(script, room, volume, voices):
+    """The work area lies at the top of sound RAM and is rounded up to whole files of zeros."""
+    zeros = len(ZEROS.blocks)
+    base = 0x80000 - (room.size + zeros - 1) // zeros * zeros
+    script.part(f"Reverb: {room.name}. Its work area, {base:X}h to 7FFFFh, has to be loaded, too: zeros.",
+                "The reverb reads it before it writes there, and what lies there is heard.")
+    for address in range(base, 0x80000, zeros):
+        script.lines.append(f"l {address:X} samples/{ZEROS.file}")
+    script.say("The work area's address / 8, and the room.")
     script.write(0x1A2, base // 8)
-    for k, value in enumerate(registers.split()):
+    for k, value in enumerate(room.registers.split()):
         script.write(0x1C0 + 2 * k, int(value, 16))
-    script.write(0x184, round(0x7FFF * loud))
-    script.write(0x186, round(0x7FFF * loud))
+    script.say("How loud it is, left and right, and which voices go into it.")
+    script.write(0x184, round(0x7FFF * volume))
+    script.write(0x186, round(0x7FFF * volume))
     script.flags(0x198, voices)
 
 
-# ---- a score: what happens at which tick
+# ---- scores: what happens at which tick
 
 class Moment:
     def __init__(self):
-        self.words, self.writes, self.on, self.off = [], [], [], []
+        self.title, self.words, self.writes, self.on, self.off = "", {}, [], [], []
+
+    def comment(self):
+        parts = [" ".join([name, *notes]) for name, notes in self.words.items()]
+        return self.title + ", ".join(parts)
 
 
 class Score:
-    """Notes in any order; play puts their lines in the order of time."""
+    """Notes in any order. play writes their lines, in the order of time, behind those that the script has."""
 
     def __init__(self, script):
         self.script = script
@@ -328,260 +363,330 @@ class Score:
     def at(self, tick):
         return self.moments.setdefault(round(tick), Moment())
 
-    def key_on(self, tick, word, *voices):
-        moment = self.at(tick)
-        moment.words.append(word)
-        moment.on += voices
-
-    def key_off(self, tick, *voices):
-        self.at(tick).off += voices
+    def title(self, tick, words):
+        self.at(tick).title = words + ": "
 
     def write(self, tick, offset, value):
         self.at(tick).writes.append((offset, value))
 
-    def headline(self, tick, words):
-        self.at(tick).words.insert(0, words)
+    def key_on(self, tick, name, note, *voices):
+        self.at(tick).words.setdefault(name, []).extend(note.split())
+        self.at(tick).on += voices
+
+    def key_off(self, tick, *voices):
+        self.at(tick).off += voices
 
     def play(self, until):
-        """Moments after the script's last line, then silence until the end."""
-        script, now = self.script, 0
-        for tick in sorted(self.moments):
-            moment = self.moments[tick]
-            script.wait(tick - now)
+        now = 0
+        for tick, moment in sorted(self.moments.items()):
+            self.script.wait(tick - now)
+            self.play_moment(moment)
             now = tick
-            if moment.words:
-                script.say(", ".join(moment.words))
-            script.key_off(*moment.off)
-            for offset, value in moment.writes:
-                script.write(offset, value)
-            script.key_on(*moment.on)
-        script.wait(until - now)
+        self.script.wait(round(until) - now)
+
+    def play_moment(self, moment):
+        if moment.title:
+            self.script.part(moment.comment())
+        elif moment.words:
+            self.script.say(moment.comment())
+        self.script.key_off(*moment.off)
+        for offset, value in moment.writes:
+            self.script.write(offset, value)
+        self.script.key_on(*moment.on)
 
 
 class Part:
-    """An instrument: a sample and an envelope on some voices, which take the notes by turns, so that a note rings on
-    while the next one starts."""
+    """An instrument: a sample with an envelope. Its voices take the notes by turns: one rings on while the next starts."""
 
     def __init__(self, score, name, sample, adsr, voices, volume, pans=(0,)):
-        self.score, self.name, self.sample = score, name, sample
-        self.voices, self.turn = voices, 0
-        script = score.script
-        script.part(f"{name}: voice {', '.join(map(str, voices))}. Volume left and right, start address / 8, envelope.")
+        self.score, self.name, self.sample, self.voices, self.turn = score, name, sample, voices, 0
+        score.script.part(f"{name}, {listed(voices)}: volume left and right, start address / 8, envelope ({adsr.words}).")
         for k, voice in enumerate(voices):
-            script.voice(voice, sample, adsr, *sides(volume, pans[k % len(pans)]))
+            score.script.voice(voice, sample, adsr, *sides(volume, pans[k % len(pans)]))
 
-    def next_voice(self):
+    def note(self, tick, note, ticks, shaken=False):
+        """A note that is held for some ticks. shaken: the voice below is keyed with it."""
+        voice = self.voices[self.turn % len(self.voices)]
         self.turn += 1
-        return self.voices[(self.turn - 1) % len(self.voices)]
-
-    def note(self, tick, note, ticks, *others):
-        """A note that is held for some ticks; others are voices that are keyed with it."""
-        voice = self.next_voice()
+        keyed = (voice - 1, voice) if shaken else (voice,)
         self.score.write(tick, 0x10 * voice + 4, pitch(frequency(note), self.sample.cycle))
-        below = [voice + k for k in others]
-        self.score.key_on(tick, f"{self.name} {note}", voice, *below)
-        self.score.key_off(tick + ticks, voice, *below)
+        self.score.key_on(tick, self.name, note, *keyed)
+        self.score.key_off(tick + ticks, *keyed)
 
 
 class Drums:
-    """Kick (with its bend), snare and cymbal on seven voices from first on. Noise has one speed for all voices, so each
-    stroke sets it."""
+    """Kick, snare and cymbals on voices 0 to 5. All noise has one speed, so each stroke sets it."""
 
-    def __init__(self, score, control, sine, first, volume):
+    BEND, KICK, SKIN, WIRES, HAT, CRASH = range(6)
+    NOISY = (WIRES, HAT, CRASH)
+
+    def __init__(self, score, control, sine, volume):
         self.score, self.control = score, control
         script = score.script
-        self.bend, self.kick_voice, self.tom_voice, self.body, self.snare_voice, self.hat_voice, self.crash_voice = (
-            range(first, first + 7))
-        script.part("Drums. A voice in noise mode still reads a sample: a silent one that repeats.")
-        script.say(f"voice {self.bend}: a level that falls, not heard; it bends the kick, voice {self.kick_voice}, "
-                   "down (pitch modulation)")
-        script.voice(self.bend, LEVEL, envelope(0, sustain=9), 0, 0)
-        script.voice(self.kick_voice, sine, envelope(4, sustain=11), *sides(volume))
-        script.write(0x10 * self.bend + 4, 0x1000)
-        script.write(0x10 * self.kick_voice + 4, pitch(50, sine.cycle))
-        script.flags(0x190, [self.kick_voice])
-        script.say(f"voice {self.tom_voice}: a low tom")
-        script.voice(self.tom_voice, SILENCE, envelope(2, sustain=11), *sides(volume * 0.5, -0.4))
-        script.say(f"voice {self.body}, {self.snare_voice}: the snare, its skin and its wires")
-        script.voice(self.body, sine, envelope(2, sustain=9), *sides(volume * 0.5, -0.2))
-        script.write(0x10 * self.body + 4, pitch(196, sine.cycle))
-        script.voice(self.snare_voice, SILENCE, envelope(2, sustain=10), *sides(volume * 0.35, -0.2))
-        script.say(f"voice {self.hat_voice}, {self.crash_voice}: the hi-hat, short, and the crash, long")
-        script.voice(self.hat_voice, SILENCE, envelope(2, sustain=8), *sides(volume * 0.15, 0.5))
-        script.voice(self.crash_voice, SILENCE, envelope(4, sustain=13), *sides(volume * 0.2, 0.3))
-        script.say("these hear the noise")
-        script.flags(0x194, [self.tom_voice, self.snare_voice, self.hat_voice, self.crash_voice])
+        script.part("kick, voice 1: a low tone, bent down by voice 0, which is not heard: a level that falls.")
+        script.voice(self.BEND, LEVEL, envelope(attack=0, sustain=9), 0, 0, 0x1000)
+        script.voice(self.KICK, sine, envelope(attack=4, sustain=11), *sides(volume), pitch(50, sine.cycle))
+        script.part("snare, voices 2 and 3: its skin, a short tone, and its wires, noise.",
+                    "A voice that plays noise reads a sample all the same: a silent one that repeats.")
+        script.voice(self.SKIN, sine, envelope(attack=2, sustain=9), *sides(volume * 0.5, -0.2), pitch(196, sine.cycle))
+        script.voice(self.WIRES, SILENCE, envelope(attack=2, sustain=10), *sides(volume * 0.35, -0.2))
+        script.part("hat and crash, voices 4 and 5: noise, short and long.")
+        script.voice(self.HAT, SILENCE, envelope(attack=2, sustain=8), *sides(volume * 0.15, 0.5))
+        script.voice(self.CRASH, SILENCE, envelope(attack=4, sustain=13), *sides(volume * 0.2, 0.3))
 
-    def stroke(self, tick, word, speed, *voices):
-        if speed is not None:
-            self.score.write(tick, 0x1AA, self.control | speed)
-        self.score.key_on(tick, word, *voices)
+    def stroke(self, tick, name, speed, *voices):
+        self.score.write(tick, 0x1AA, self.control | speed)
+        self.score.key_on(tick, name, "", *voices)
 
     def kick(self, tick):
-        self.stroke(tick, "kick", None, self.bend, self.kick_voice)
+        self.score.key_on(tick, "kick", "", self.BEND, self.KICK)
 
     def snare(self, tick):
-        self.stroke(tick, "snare", noise(14, 0), self.body, self.snare_voice)
+        self.stroke(tick, "snare", noise(14, 0), self.SKIN, self.WIRES)
 
     def hat(self, tick):
-        self.stroke(tick, "hat", noise(15, 0), self.hat_voice)
+        self.stroke(tick, "hat", noise(15, 0), self.HAT)
 
     def crash(self, tick):
-        self.stroke(tick, "crash", noise(14, 2), self.crash_voice)
-
-    def tom(self, tick, shift, step):
-        self.stroke(tick, "tom", noise(shift, step), self.tom_voice)
+        self.stroke(tick, "crash", noise(14, 2), self.CRASH)
 
 
-# ---- the examples
+# ---- the short examples
+
+NO_FILE = "It needs no file and 64 KiB of sound RAM. Without comments and blank lines the program bench plays it, too."
+
 
 def tone():
-    script = Script(
-        "tone.txt: one tone, the A above middle C (440 Hz).",
-        "Listen for: a soft start, a steady tone in the middle, a soft end.",
-        "It needs no file and fits 64 KiB of sound RAM. Without comments and blank lines the program bench plays it, too.")
+    script = Script("tone.txt: one tone, the A above middle C (440 Hz).",
+                    "Listen for: a soft start, a steady tone in the middle, a soft end.", NO_FILE)
     script.main_volume()
-    script.part("Control: the chip on, its sound on, transfers inward. They are taken a tick later.")
-    script.write(0x1AA, ON | INWARD)
+    script.control(ON | INWARD, ", transfers to sound RAM, which are on from the next tick")
     script.wait(1)
-    script.part("The wave, a sine in four blocks that repeat, to 1000h. The transfer address counts 8 bytes.")
+    script.part("The transfer address / 8, and the wave: one cycle of a sine in four blocks, which repeat.")
     script.send(SINE)
-    script.part("Voice 0: volume left and right, start address / 8, envelope.")
-    script.voice(0, SINE, envelope(attack=11, release=11), *sides(0.9))
-    script.say(f"Its pitch: 1000h would play 44,100 samples a second, and the wave has {SINE.cycle}.")
-    script.write(4, pitch(frequency("A4"), SINE.cycle))
-    script.part("Key on, and a second and a half of sound.")
+    adsr = envelope(attack=11)
+    script.part(f"Voice 0: volume left and right, pitch, start address / 8, envelope ({adsr.words}).",
+                f"Pitch 1000h plays 44,100 samples a second. The wave has {SINE.cycle}, which gives 394 Hz; 11E1h gives 440 Hz.")
+    script.voice(0, SINE, adsr, *sides(0.9), pitch(frequency("A4"), SINE.cycle))
+    script.part("Key on: a second and a half of sound.")
     script.key_on(0)
-    script.wait(RATE)
-    script.wait(RATE // 2)
+    script.wait(3 * RATE // 2)
     script.part("Key off: the tone dies away.")
     script.key_off(0)
-    script.wait(RATE)
+    script.wait(RATE // 2)
     return script
 
 
 def chord():
-    script = Script(
-        "chord.txt: the same chord (F major with a ninth and a major seventh) three times, with three envelopes.",
-        "Listen for: strings that swell and fade, an organ that is there and gone, a harp that dies away by itself.")
+    script = Script("chord.txt: one chord (F major with a seventh and a ninth) three times, with three envelopes.",
+                    "Listen for: strings that swell and fade, an organ that is there and gone, a harp that dies by itself.")
     script.main_volume()
-    script.part("Three waves, from their files to sound RAM.")
     script.load(SAW, FLUTE, PLUCK)
     score = Score(script)
     pans = (0, -0.7, 0.7, -0.4, 0.4)
     strings = Part(score, "strings", SAW, envelope(attack=14, release=12), range(0, 5), 0.26, pans)
     organ = Part(score, "organ", FLUTE, envelope(attack=6, release=8), range(5, 10), 0.22, pans)
-    harp = Part(score, "harp", PLUCK, envelope(attack=3, sustain=14, release=12), range(10, 15), 0.32, pans)
-    script.part("Control: the chip on, its sound on.")
-    script.write(0x1AA, ON)
-    script.part("The music: pitches, key on, key off.")
-    second = RATE
+    harp = Part(score, "harp", PLUCK, envelope(attack=3, sustain=14), range(10, 15), 0.32, pans)
+    script.control(ON)
+    script.part("The music: pitch, key on; later key off.")
     for k, note in enumerate(("F2", "C3", "A3", "E4", "G4")):
-        strings.note(0, note, 1.6 * second)
-        organ.note(2.4 * second, note, 1.2 * second)
-        harp.note((4.0 + 0.09 * k) * second, note, (1.9 - 0.09 * k) * second)
-    score.play(7.2 * second)
+        strings.note(0, note, 1.6 * RATE)
+        organ.note(2.5 * RATE, note, 1.2 * RATE)
+        harp.note((4.0 + 0.1 * k) * RATE, note, (2.7 - 0.1 * k) * RATE)
+    score.play(7.25 * RATE)
     return script
 
 
 def drums():
-    script = Script(
-        "drums.txt: two bars of drums, of noise and a sine.",
-        "Listen for: the kick's fall, the snare's rattle on 2 and 4, the hi-hat on the right, the toms that roll down and",
-        "the crash at the end.",
-        "It needs no file and fits 64 KiB of sound RAM. Without comments and blank lines the program bench plays it, too.")
+    script = Script("drums.txt: two bars of drums, made of noise and a sine.",
+                    "Listen for: the kick that falls, the snare on 2 and 4, the hat on the right, toms that roll down on the left,",
+                    "the crash at the end.", NO_FILE)
     script.main_volume()
-    script.part("Control: the chip on, its sound on, transfers inward. They are taken a tick later.")
-    script.write(0x1AA, ON | INWARD)
+    script.control(ON | INWARD, ", transfers to sound RAM, which are on from the next tick")
     script.wait(1)
-    script.part("To 1000h: a level that stays (a block of sevens), silence, a sine. Each repeats.")
+    script.part("The transfer address / 8, and three waves that repeat: a level, silence, a sine.")
     script.send(LEVEL, SILENCE, SINE)
     score = Score(script)
-    kit = Drums(score, ON | INWARD, SINE, 0, 0.8)
-    script.part("The music, in eighths of 11025 ticks (120 quarters a minute).")
+    kit = Drums(score, ON | INWARD, SINE, 0.8)
+    tom = 6
+    script.part("tom, voice 6: noise, slower with each stroke.")
+    script.voice(tom, SILENCE, envelope(attack=2, sustain=11), *sides(0.4, -0.4))
+    script.modulated(kit.KICK)
+    script.noisy(*kit.NOISY, tom)
     eighth = RATE // 4
-    for bar in range(2):
-        start = bar * 8 * eighth
-        score.headline(start, f"bar {bar + 1}")
-        for k in (0, 3, 4) if bar == 0 else (0, 3):
-            kit.kick(start + k * eighth)
-        for k in (2, 6) if bar == 0 else (2,):
-            kit.snare(start + k * eighth)
-        for k in (0, 1, 3, 4, 5, 7) if bar == 0 else (0, 1, 3):
-            kit.hat(start + k * eighth)
+    script.part("The music, in eighths of 11025 ticks (120 quarters a minute): the noise's speed in 1AAh, key on.")
+    play_beats(kit, 0, eighth, kicks=(0, 3, 4), snares=(2, 6), hats=(0, 1, 3, 4, 5, 7))
+    play_beats(kit, 8 * eighth, eighth, kicks=(0, 3), snares=(2,), hats=(0, 1, 3))
     for k in range(8):
-        kit.tom((12 + k / 2) * eighth, 13 - k // 2, 3 - k % 2 * 2)
-    score.headline(16 * eighth, "the end")
+        kit.stroke((12 + k / 2) * eighth, "tom", noise(13 - k // 2, 3 - k % 2 * 2), tom)
     kit.kick(16 * eighth)
     kit.crash(16 * eighth)
-    score.play(25 * eighth)
+    for number, words in enumerate(("bar 1", "bar 2", "the end")):
+        score.title(8 * number * eighth, words)
+    score.play(22 * eighth)
     return script
 
 
+def play_beats(kit, start, eighth, kicks, snares, hats):
+    for strike_drum, beats in ((kit.kick, kicks), (kit.snare, snares), (kit.hat, hats)):
+        for beat in beats:
+            strike_drum(start + beat * eighth)
+
+
 def hall():
-    script = Script(
-        "hall.txt: bells in a hall.",
-        "Listen for: each bell on its own side, the hall that answers from both, and its tail after the last one.")
+    script = Script("hall.txt: bells in a hall.",
+                    "Listen for: bells on both sides, the hall's answer to each, and its tail after the last one.")
     script.main_volume()
-    script.part("The bell, from its file to sound RAM.")
     script.load(BELL)
     voices = range(0, 8)
-    set_reverb(script, "Hall", HALL, 0.45, voices)
+    set_reverb(script, HALL, 0.6, voices)
     score = Score(script)
-    bell = Part(score, "bell", BELL, envelope(attack=2, sustain=13, release=12), voices, 0.4,
+    bell = Part(score, "bell", BELL, envelope(attack=2, sustain=13, release=12), voices, 0.36,
                 (-0.8, 0.8, -0.5, 0.5, -0.2, 0.2, -0.6, 0.6))
-    script.part("Control: the chip on, its sound on, the reverb may write to its work area.")
-    script.write(0x1AA, ON | REVERB)
-    script.part("The music: pitches, key on, key off.")
+    script.control(ON | REVERB, ", the reverb may write")
     step = RATE // 6
+    script.part("The music: pitch, key on; later key off.")
     for k, note in enumerate("E4 B4 F#5 G5 B5 F#5 G5 D5 C4 G4 D5 E5 G5 D5 B4 G4 A4 E5 B5 E6".split()):
-        bell.note(k * step, note, 7 * step if k < 19 else 12 * step)
-    score.play(20 * step + 4 * RATE)
+        bell.note(k * step, note, 7 * step)
+    score.play(6.5 * RATE)
     return script
 
 
 def door():
-    script = Script(
-        "door.txt: a door that creaks and falls shut. Its last block lacks the end flag.",
-        "Listen for: the silence after it, which render reports. The voice runs on into sound RAM that nobody loaded.",
-        "Here that is silent; a console would play whatever lies there.")
+    script = Script("door.txt: a door that creaks and falls shut. The last block of its sample lacks the end flag.",
+                    "Listen for: the silence after it. The voice runs on into sound RAM that nobody loaded: here that is silent,",
+                    "a console plays whatever lies there. render says from which tick on.")
     script.main_volume()
-    script.part("The door, from its file to sound RAM.")
     script.load(DOOR)
-    script.part("To mend it, let it run into a silent block that repeats: take the # from the next line.")
+    script.part("To mend it, load a silent block that repeats behind it: take the # from the next line.")
     script.say(f"l {script.free:X} samples/{SILENCE.file}")
-    script.part("Voice 0: volume left and right, start address / 8, envelope, pitch (a quarter of 44,100 samples a second).")
-    script.voice(0, DOOR, envelope(attack=0), *sides(1, 0.2))
-    script.write(4, 0x400)
-    script.part("Control: the chip on, its sound on.")
-    script.write(0x1AA, ON)
-    script.part("The door opens, and falls shut.")
+    script.part("Voice 0: volume left and right, pitch (11,025 samples a second), start address / 8, envelope.")
+    script.voice(0, DOOR, envelope(attack=0), *sides(1, 0.2), 0x400)
+    script.control(ON)
+    script.part("The door creaks, and falls shut.")
     script.key_on(0)
-    script.wait(RATE // 2)
-    script.wait(RATE // 2)
-    script.part("Whatever lies behind it.")
     script.wait(RATE)
-    script.key_off(0)
-    script.wait(RATE // 2)
+    script.part("Nobody keys the voice off: it plays what lies behind the door.")
+    script.wait(RATE)
     return script
+
+
+# ---- the song
+
+EIGHTH = RATE // 5                  # 150 quarters a minute
+BAR = 8 * EIGHTH
+
+# A bar's chord: its name, bass (root and fifth), strings, harp.
+CHORDS = (
+    ("Cmaj7", "C2 G2", "G3 B3 E4", "C4 E4 G4 B4"),
+    ("D", "D2 A2", "F#3 A3 D4", "D4 F#4 A4 D5"),
+    ("Bm7", "B1 F#2", "F#3 A3 D4", "B3 D4 F#4 A4"),
+    ("Em7", "E2 B2", "G3 B3 D4", "E4 G4 B4 D5"),
+    ("Am7", "A1 E2", "G3 C4 E4", "A3 C4 E4 G4"),
+    ("D7", "D2 A2", "A3 C4 D4", "D4 A4 C5 D5"),
+)
+LAST = len(CHORDS)                  # the bar of the last chord, G
+
+# The melody, bar by bar: note and eighths.
+MELODY = (
+    "B4 3 C5 1 D5 2 G5 2",
+    "F#5 3 E5 1 D5 2 A4 2",
+    "D5 3 E5 1 F#5 2 B5 2",
+    "A5 3 G5 1 E5 2 D5 2",
+    "C5 1 E5 1 G5 2 F#5 1 G5 1 A5 2",
+    "G5 2 F#5 1 E5 1 F#5 2 A5 1 C6 1",
+    "B5 8",
+)
+
+# The bells' answers: bar and eighth, from 0, and note.
+BELLS = ((1, 5, "A5"), (1, 6, "D6"), (1, 7, "F#6"), (3, 5, "B5"), (3, 6, "E6"), (3, 7, "G6"),
+         (LAST, 1, "D5"), (LAST, 2, "G5"), (LAST, 3, "A5"), (LAST, 4, "D6"), (LAST, 6, "G6"))
+
+
+def play_melody(flute):
+    for bar, line in enumerate(MELODY):
+        tick, words = bar * BAR, line.split()
+        for note, eighths in zip(words[::2], map(int, words[1::2])):
+            flute.note(tick, note, (eighths - 0.15) * EIGHTH, shaken=True)
+            tick += eighths * EIGHTH
+
+
+def play_chords(strings, harp, bass):
+    for bar, (_, roots, chord_notes, harp_notes) in enumerate(CHORDS):
+        start = bar * BAR
+        root, fifth = roots.split()
+        for eighth, note, eighths in ((0, root, 2.8), (3, root, 0.8), (4, fifth, 1.8), (6, root, 1.8)):
+            bass.note(start + eighth * EIGHTH, note, eighths * EIGHTH)
+        for note in chord_notes.split():
+            strings.note(start, note, 7.5 * EIGHTH)
+        for eighth, k in enumerate((0, 1, 2, 3, 2, 3, 2, 1)):
+            harp.note(start + eighth * EIGHTH, harp_notes.split()[k], 2.5 * EIGHTH)
+
+
+def play_last_chord(strings, harp, bass):
+    start = LAST * BAR
+    bass.note(start, "G1", 9 * EIGHTH)
+    for note in ("G3", "B3", "D4"):
+        strings.note(start, note, 9 * EIGHTH)
+    for k, note in enumerate(("G3", "D4", "G4", "B4")):
+        harp.note(start + k * EIGHTH / 4, note, (9 - k / 4) * EIGHTH)
+
+
+def play_drums(kit):
+    hats = (0, 1, 2, 3, 5, 6, 7)
+    for bar in (0, 1):
+        play_beats(kit, bar * BAR, EIGHTH, kicks=(0, 3), snares=(), hats=hats)
+    for bar in range(2, LAST - 1):
+        play_beats(kit, bar * BAR, EIGHTH, kicks=(0, 3, 6), snares=(4,), hats=hats)
+    play_beats(kit, (LAST - 1) * BAR, EIGHTH, kicks=(0, 3), snares=(4, 6, 6.5, 7, 7.5), hats=(0, 1, 2, 3, 5))
+    kit.kick(LAST * BAR)
+    kit.crash(LAST * BAR)
 
 
 def song():
     script = Script(
-        "song.txt: a small tune for flute, harp, bells, strings, bass and drums, in a studio.")
-    script.wait(1)
+        "song.txt: a small tune for flute, harp, bells, strings, bass and drums.",
+        "Listen for: the flute, which begins to tremble late in a note (the voice below shakes its pitch), the harp that walks",
+        "from side to side, the bells' answers in bars 2 and 4, the snare from bar 3 on, the last chord's tail.")
+    script.main_volume()
+    script.load(FLUTE, SAW, PLUCK, BELL, TREMBLE, LEVEL, SILENCE)
+    set_reverb(script, STUDIO, 0.36, (Drums.WIRES, 7, 9, *range(10, 22)))
+    score = Score(script)
+    kit = Drums(score, ON | REVERB, FLUTE, 0.45)
+    script.part("tremble, voices 6 and 8: not heard, a slow wave (5.5 Hz) that swells.")
+    for voice in (6, 8):
+        script.voice(voice, TREMBLE, envelope(attack=13, release=8), 0, 0, pitch(5.5, TREMBLE.cycle))
+    flute = Part(score, "flute", FLUTE, envelope(attack=9, release=10), (7, 9), 0.25, (0.1,))
+    strings = Part(score, "strings", SAW, envelope(attack=13, release=12), range(10, 16), 0.09, (-0.8, 0.8, 0))
+    harp = Part(score, "harp", PLUCK, envelope(attack=3, sustain=12), range(16, 20), 0.21, (-0.7, -0.2, 0.7, 0.2))
+    bells = Part(score, "bell", BELL, envelope(attack=2, sustain=13, release=12), (20, 21), 0.14, (-0.5, 0.5))
+    bass = Part(score, "bass", SAW, envelope(attack=5, sustain=14, release=10), (22, 23), 0.24)
+    script.modulated(kit.KICK, *flute.voices)
+    script.noisy(*kit.NOISY)
+    script.control(ON | REVERB, ", the reverb may write")
+    script.part("The music, in eighths of 8820 ticks (150 quarters a minute): pitch, key on; later key off.")
+    play_melody(flute)
+    play_chords(strings, harp, bass)
+    play_last_chord(strings, harp, bass)
+    for bar, eighth, note in BELLS:
+        bells.note(bar * BAR + eighth * EIGHTH, note, 3 * EIGHTH)
+    play_drums(kit)
+    for bar, name in enumerate([name for name, *_ in CHORDS] + ["G"]):
+        score.title(bar * BAR, f"bar {bar + 1}, {name}")
+    score.play(14 * RATE)
     return script
-
-
-EXAMPLES = (tone, chord, drums, hall, door, song)
 
 
 # ---- files
 
-def files():
+EXAMPLES = (tone, chord, drums, hall, door, song)
+
+
+def contents():
     """What each file holds, by its name."""
     made = {f"samples/{sample.file}": sample.blocks for sample in FILES}
-    made.update((f"{example.__name__}.txt", example().text().encode()) for example in EXAMPLES)
+    for example in EXAMPLES:
+        made[f"{example.__name__}.txt"] = "".join(line + "\n" for line in example().lines).encode()
     return made
 
 
@@ -589,24 +694,20 @@ def write(made):
     (HERE / "samples").mkdir(exist_ok=True)
     for name, content in made.items():
         (HERE / name).write_bytes(content)
+    return 0
 
 
-def out_of_date(made):
-    return [name for name, content in made.items()
-            if not (HERE / name).is_file() or (HERE / name).read_bytes() != content]
-
-
-def main(arguments):
-    if arguments not in ([], ["--check"]):
-        return "usage: make.py [--check]"
-    if not arguments:
-        return write(files())
-    stale = out_of_date(files())
+def check(made):
+    stale = [name for name, content in made.items()
+             if not (HERE / name).is_file() or (HERE / name).read_bytes() != content]
     for name in stale:
         print(f"not up to date: {name}")
-    print("the examples are not up to date" if stale else "the examples are up to date")
+    if not stale:
+        print(f"{len(made)} files are up to date")
     return 1 if stale else 0
 
 
 if __name__ == "__main__":
-    sys.exit(main(sys.argv[1:]))
+    if sys.argv[1:] not in ([], ["--check"]):
+        sys.exit("usage: make.py [--check]")
+    sys.exit(check(contents()) if sys.argv[1:] else write(contents()))
