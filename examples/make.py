@@ -219,9 +219,13 @@ SAMPLES_FROM = 0x1000                       # below lie the captures, which the 
 
 
 def listed(numbers):
-    """voice 3; voices 3 and 4; voices 3, 4 and 5"""
-    *head, last = map(str, numbers)
-    return f"voices {', '.join(head)} and {last}" if head else f"voice {last}"
+    """voice 3; voices 3 and 5; voices 3 to 5"""
+    *head, last = numbers
+    if not head:
+        return f"voice {last}"
+    if len(head) > 1 and last - head[0] == len(head):
+        return f"voices {head[0]} to {last}"
+    return f"voices {', '.join(map(str, head))} and {last}"
 
 
 class Script:
@@ -255,7 +259,7 @@ class Script:
 
     def load(self, *samples):
         """Samples from their files."""
-        self.part("Samples from files to sound RAM, one behind the other.")
+        self.part("Samples, from their files to sound RAM.")
         for sample in samples:
             self.lines.append(f"l {self.place(sample):X} samples/{sample.file}")
 
@@ -396,11 +400,13 @@ class Score:
 
 
 class Part:
-    """An instrument: a sample with an envelope. Its voices take the notes by turns: one rings on while the next starts."""
+    """An instrument: a sample with an envelope. Its voices take the notes by turns, so that one rings on while the
+    next one starts."""
 
     def __init__(self, score, name, sample, adsr, voices, volume, pans=(0,)):
         self.score, self.name, self.sample, self.voices, self.turn = score, name, sample, voices, 0
-        score.script.part(f"{name}, {listed(voices)}: volume left and right, start address / 8, envelope ({adsr.words}).")
+        score.script.part(f"{name}, {listed(voices)}: volume left and right, start address / 8,",
+                          f"envelope ({adsr.words}).")
         for k, voice in enumerate(voices):
             score.script.voice(voice, sample, adsr, *sides(volume, pans[k % len(pans)]))
 
@@ -466,7 +472,8 @@ def tone():
     script.send(SINE)
     adsr = envelope(attack=11)
     script.part(f"Voice 0: volume left and right, pitch, start address / 8, envelope ({adsr.words}).",
-                f"Pitch 1000h plays 44,100 samples a second. The wave has {SINE.cycle}, which gives 394 Hz; 11E1h gives 440 Hz.")
+                f"Pitch 1000h plays 44,100 samples a second. The wave has {SINE.cycle}, which gives 394 Hz.",
+                "So 11E1h gives 440 Hz.")
     script.voice(0, SINE, adsr, *sides(0.9), pitch(frequency("A4"), SINE.cycle))
     script.part("Key on: a second and a half of sound.")
     script.key_on(0)
@@ -479,7 +486,8 @@ def tone():
 
 def chord():
     script = Script("chord.txt: one chord (F major with a seventh and a ninth) three times, with three envelopes.",
-                    "Listen for: strings that swell and fade, an organ that is there and gone, a harp that dies by itself.")
+                    "Listen for: strings that swell and fade, an organ that is there and gone,",
+                    "a harp that fades by itself.")
     script.main_volume()
     script.load(SAW, FLUTE, PLUCK)
     score = Score(script)
@@ -499,8 +507,8 @@ def chord():
 
 def drums():
     script = Script("drums.txt: two bars of drums, made of noise and a sine.",
-                    "Listen for: the kick that falls, the snare on 2 and 4, the hat on the right, toms that roll down on the left,",
-                    "the crash at the end.", NO_FILE)
+                    "Listen for: the kick that falls, the snare on 2 and 4, the hat on the right,",
+                    "the toms that roll down on the left, the crash at the end.", NO_FILE)
     script.main_volume()
     script.control(ON | INWARD, ", transfers to sound RAM, which are on from the next tick")
     script.wait(1)
@@ -554,8 +562,8 @@ def hall():
 
 def door():
     script = Script("door.txt: a door that creaks and falls shut. The last block of its sample lacks the end flag.",
-                    "Listen for: the silence after it. The voice runs on into sound RAM that nobody loaded: here that is silent,",
-                    "a console plays whatever lies there. render says from which tick on.")
+                    "Listen for: the silence after it. The voice runs on into sound RAM that nobody loaded.",
+                    "Here that is silent; a console plays whatever lies there. render says from which tick on.")
     script.main_volume()
     script.load(DOOR)
     script.part("To mend it, load a silent block that repeats behind it: take the # from the next line.")
@@ -575,6 +583,13 @@ def door():
 
 EIGHTH = RATE // 5                  # 150 quarters a minute
 BAR = 8 * EIGHTH
+
+
+def held(eighths):
+    """Notes end a little early."""
+    return (eighths - 0.2) * EIGHTH
+
+
 
 # A bar's chord: its name, bass (root and fifth), strings, harp.
 CHORDS = (
@@ -607,7 +622,7 @@ def play_melody(flute):
     for bar, line in enumerate(MELODY):
         tick, words = bar * BAR, line.split()
         for note, eighths in zip(words[::2], map(int, words[1::2])):
-            flute.note(tick, note, (eighths - 0.15) * EIGHTH, shaken=True)
+            flute.note(tick, note, held(eighths), shaken=True)
             tick += eighths * EIGHTH
 
 
@@ -615,21 +630,21 @@ def play_chords(strings, harp, bass):
     for bar, (_, roots, chord_notes, harp_notes) in enumerate(CHORDS):
         start = bar * BAR
         root, fifth = roots.split()
-        for eighth, note, eighths in ((0, root, 2.8), (3, root, 0.8), (4, fifth, 1.8), (6, root, 1.8)):
-            bass.note(start + eighth * EIGHTH, note, eighths * EIGHTH)
+        for eighth, note, eighths in ((0, root, 3), (3, root, 1), (4, fifth, 2), (6, root, 2)):
+            bass.note(start + eighth * EIGHTH, note, held(eighths))
         for note in chord_notes.split():
-            strings.note(start, note, 7.5 * EIGHTH)
+            strings.note(start, note, held(8))
         for eighth, k in enumerate((0, 1, 2, 3, 2, 3, 2, 1)):
-            harp.note(start + eighth * EIGHTH, harp_notes.split()[k], 2.5 * EIGHTH)
+            harp.note(start + eighth * EIGHTH, harp_notes.split()[k], held(3))
 
 
 def play_last_chord(strings, harp, bass):
     start = LAST * BAR
-    bass.note(start, "G1", 9 * EIGHTH)
+    bass.note(start, "G1", held(9))
     for note in ("G3", "B3", "D4"):
-        strings.note(start, note, 9 * EIGHTH)
+        strings.note(start, note, held(9))
     for k, note in enumerate(("G3", "D4", "G4", "B4")):
-        harp.note(start + k * EIGHTH / 4, note, (9 - k / 4) * EIGHTH)
+        harp.note(start + k * EIGHTH / 4, note, held(9 - k / 4))
 
 
 def play_drums(kit):
@@ -646,8 +661,8 @@ def play_drums(kit):
 def song():
     script = Script(
         "song.txt: a small tune for flute, harp, bells, strings, bass and drums.",
-        "Listen for: the flute, which begins to tremble late in a note (the voice below shakes its pitch), the harp that walks",
-        "from side to side, the bells' answers in bars 2 and 4, the snare from bar 3 on, the last chord's tail.")
+        "Listen for: the flute that begins to tremble late in a note (the voice below shakes its pitch), the harp that",
+        "walks from side to side, the bells' answers in bars 2 and 4, the snare from bar 3 on, the last chord's tail.")
     script.main_volume()
     script.load(FLUTE, SAW, PLUCK, BELL, TREMBLE, LEVEL, SILENCE)
     set_reverb(script, STUDIO, 0.36, (Drums.WIRES, 7, 9, *range(10, 22)))
@@ -669,7 +684,7 @@ def song():
     play_chords(strings, harp, bass)
     play_last_chord(strings, harp, bass)
     for bar, eighth, note in BELLS:
-        bells.note(bar * BAR + eighth * EIGHTH, note, 3 * EIGHTH)
+        bells.note(bar * BAR + eighth * EIGHTH, note, held(2))
     play_drums(kit)
     for bar, name in enumerate([name for name, *_ in CHORDS] + ["G"]):
         score.title(bar * BAR, f"bar {bar + 1}, {name}")
