@@ -1,24 +1,34 @@
-/* Tenonwhisk: a proved core of the sound chip, for C.
+/* Tenonwhisk: a proved core of a console's sound chip (SPU), for C and C++.
  *
- * The host lends all memory: a state (TENONWHISK_STATE_BYTES bytes), sound RAM (65,536 or 524,288 bytes, called L) and marks (L/16 bytes: bit
- * h % 8 of byte h / 8 says that the halfword at address 2h is loaded). Nothing is allocated and nothing is kept between calls, so any number of
- * cores run side by side. A state is plain bytes: it may be copied, saved and sent elsewhere.
+ * Memory. The host lends all of it:
  *
- * Every slice is a pointer and a number of elements. The buffers of one call must not overlap, and a pointer is not NULL, also of no elements;
- * nothing else is asked. A call that is refused returns its number, zero results, and leaves every lent byte as it was.
+ *   state   TENONWHISK_STATE_BYTES bytes: the whole chip except its sound RAM
+ *   ram     L bytes of sound RAM; L is 65,536 or 524,288, and each state is made for one of the two
+ *   marks   L/16 bytes: bit h % 8 of byte h / 8 says that the halfword at address 2h is loaded; zero them to begin with
  *
- *   0  done
- *   1  RAM or marks of another length than the state's L asks; a state made for another L
- *   2  no state: other bytes, another length, or a field outside its range
- *   3  register offset odd or not listed
- *   4  a register that is only read was written
- *   5  listed, but not carried
- *   6  another transfer mode is applied
- *   7  no halfwords, or more than 32
- *   8  block address not a multiple of 8, or beyond L-16
- *   9  buffers of a run not of whole pairs, or of different lengths
+ * A slice is a pointer and its number of elements, not bytes. The slices of one call must not overlap. No pointer may
+ * be NULL, not even with length 0. The library checks everything else: wrong lengths, damaged states and bad arguments
+ * are refused. A refused call returns its number and zero results, and leaves every lent byte as it was. There is one
+ * exception: for a size other than the two, tenonwhisk_make returns 1 and still writes the state for 65,536.
  *
- * Where more than one applies, the lowest is given; of bytes that are no state it is 2. */
+ * Saved states. A state is plain bytes: copy it, save it, send it elsewhere, with RAM and marks beside it. Its first
+ * four bytes name its layout (docs/CONTRACTS.md, image). A library with another layout refuses it with 2; it never
+ * misreads it.
+ *
+ * Threads. The library has no variables of its own: it allocates nothing and keeps nothing between calls. Calls on
+ * different memory may run at the same time, on any threads. So may calls on the same memory that only read it.
+ *
+ * Platform. The archive is for x86-64 Linux, with the System V calling convention. It needs memcpy and memset, and
+ * nothing else.
+ *
+ * What it does not do. Calls that ask for one of these are refused with 5:
+ *
+ *   - volume sweep: a volume with bit 15 set, of a voice or of the main output
+ *   - the data port 1A8h, and manual writes through it
+ *   - transfer types other than 2 (1ACh bits 3-1)
+ *   - a write of a voice's envelope level (+Ch)
+ *
+ * External audio is taken as zero. The library does not resample, and it does not open an output device. */
 #ifndef TENONWHISK_H
 #define TENONWHISK_H
 
@@ -30,28 +40,85 @@
 extern "C" {
 #endif
 
+#define TENONWHISK_VERSION "0.2.0"
+
+/* The length of a state. */
 #define TENONWHISK_STATE_BYTES 2493
+
+/* No call uses more stack than this. */
+#define TENONWHISK_STACK_BYTES 32768
+
+/* ---- numbers */
+
+/* What a call returns: TENONWHISK_DONE, or why it was refused. Where several reasons apply, it returns the lowest
+ * number. Bytes that are not a state do not name an L, so for them it returns TENONWHISK_STATE. */
+enum tenonwhisk_number {
+    TENONWHISK_DONE = 0,
+    TENONWHISK_MEMORY = 1,      /* RAM or marks do not have the lengths that the state's L asks for; or no such L */
+    TENONWHISK_STATE = 2,       /* not a state: other bytes, another length, or a field out of range */
+    TENONWHISK_OFFSET = 3,      /* the register offset is odd or not listed */
+    TENONWHISK_READ_ONLY = 4,   /* a write to a register that can only be read */
+    TENONWHISK_NOT_CARRIED = 5, /* the register is listed, but it, or this value of it, is not carried */
+    TENONWHISK_MODE = 6,        /* another transfer mode is applied */
+    TENONWHISK_COUNT = 7,       /* a transfer of no halfwords, or of more than 32 */
+    TENONWHISK_ADDRESS = 8,     /* the block address is not a multiple of 8, or is beyond L-16 */
+    TENONWHISK_BUFFERS = 9      /* the buffers of a run do not hold whole pairs, or have different lengths */
+};
+
+/* Returns a number's meaning in plain words. */
+static inline const char *tenonwhisk_words(uint8_t number)
+{
+    switch (number) {
+    case TENONWHISK_DONE:
+        return "done";
+    case TENONWHISK_MEMORY:
+        return "sound RAM or marks do not have the size that the state was made for (RAM 65,536 or 524,288 bytes, "
+               "marks a sixteenth)";
+    case TENONWHISK_STATE:
+        return "the bytes are not a state, or a field of the state is out of range";
+    case TENONWHISK_OFFSET:
+        return "there is no register at this offset";
+    case TENONWHISK_READ_ONLY:
+        return "this register can only be read";
+    case TENONWHISK_NOT_CARRIED:
+        return "this register, or this value of it, is not carried";
+    case TENONWHISK_MODE:
+        return "another transfer mode is applied (SPUCNT bits 5-4 act from the next tick on); mode 1 or 2 moves "
+               "inward, 3 outward";
+    case TENONWHISK_COUNT:
+        return "a transfer moves 1 to 32 halfwords";
+    case TENONWHISK_ADDRESS:
+        return "no block begins at this address: it is not a multiple of 8, or fewer than 16 bytes follow";
+    case TENONWHISK_BUFFERS:
+        return "the buffers do not hold whole pairs, or have different lengths";
+    default:
+        return "a number that no call gives";
+    }
+}
 
 /* ---- a state */
 
-/* A fresh state for a sound RAM of size bytes. Of another size than the two it gives 1 and the state for 65,536. Of another state_len than
- * TENONWHISK_STATE_BYTES it writes nothing, and gives 2 (or 1, of another size too). */
+/* Writes a fresh state for a sound RAM of size bytes. For a size other than the two, it writes the state for 65,536 and
+ * returns 1. For a state_len other than TENONWHISK_STATE_BYTES, it writes nothing and returns 2, or 1 if the size is
+ * wrong too. */
 uint8_t tenonwhisk_make(uint32_t size, uint8_t *state, size_t state_len);
 
-/* The state as made: sound RAM and marks stay. */
+/* Resets the state to what tenonwhisk_make wrote. Sound RAM and marks stay. Returns 0 or 2. */
 uint8_t tenonwhisk_reset(uint8_t *state, size_t state_len);
 
-struct tenonwhisk_status {
+struct tenonwhisk_overview {
     uint8_t number;
-    bool doubt;    /* what is heard may rest on bytes that nobody loaded */
+    bool doubt;    /* the sound may rest on bytes that nobody loaded; it stays until a reset */
     uint32_t size; /* L */
-    uint32_t tick; /* ticks since it was made or reset, modulo 2^32 */
+    uint32_t tick; /* ticks since the state was made or reset, modulo 2^32 */
 };
 
-struct tenonwhisk_status tenonwhisk_status(const uint8_t *state, size_t state_len);
+/* Looks at a state, which it only reads. Numbers: 0 if the bytes are a good state, 2 if not. */
+struct tenonwhisk_overview tenonwhisk_status(const uint8_t *state, size_t state_len);
 
 /* ---- registers, by their offset from 1F801C00h */
 
+/* Writes a register. Returns 0, 2, 3, 4 or 5. */
 uint8_t tenonwhisk_write(uint8_t *state, size_t state_len, uint32_t offset, uint16_t value);
 
 struct tenonwhisk_reading {
@@ -59,36 +126,42 @@ struct tenonwhisk_reading {
     uint16_t value;
 };
 
+/* Reads a register. The state is only read. Numbers: 0, 2, 3, 5. */
 struct tenonwhisk_reading tenonwhisk_read(const uint8_t *state, size_t state_len, uint32_t offset);
 
-/* ---- transfers, at the transfer address. irq and doubt say that this call raised the interrupt, or the doubt. */
+/* ---- transfers, at the transfer address */
 
 struct tenonwhisk_moved {
     uint8_t number;
-    bool irq;
-    bool doubt;
-    uint32_t count;
+    bool irq;       /* this call raised the interrupt */
+    bool doubt;     /* this call raised the doubt */
+    uint32_t count; /* halfwords */
 };
 
-struct tenonwhisk_moved tenonwhisk_transfer_in(uint8_t *state, size_t state_len, uint8_t *ram, size_t ram_len, uint8_t *marks, size_t marks_len,
-                                               const uint16_t *values, size_t values_len);
+/* Moves 1 to 32 halfwords to sound RAM and marks them. SPUCNT's transfer mode must have been 1 or 2 at the last tick.
+ * Numbers: 0, 1, 2, 6, 7. */
+struct tenonwhisk_moved tenonwhisk_transfer_in(uint8_t *state, size_t state_len, uint8_t *ram, size_t ram_len,
+                                               uint8_t *marks, size_t marks_len, const uint16_t *values,
+                                               size_t values_len);
 
-struct tenonwhisk_moved tenonwhisk_transfer_out(uint8_t *state, size_t state_len, const uint8_t *ram, size_t ram_len, const uint8_t *marks,
-                                                size_t marks_len, uint16_t *out, size_t out_len);
+/* Moves 1 to 32 halfwords from sound RAM to out, as many as it holds. SPUCNT's transfer mode must have been 3 at the
+ * last tick. Numbers: 0, 1, 2, 6, 7. */
+struct tenonwhisk_moved tenonwhisk_transfer_out(uint8_t *state, size_t state_len, const uint8_t *ram, size_t ram_len,
+                                                const uint8_t *marks, size_t marks_len, uint16_t *out, size_t out_len);
 
 /* ---- sound */
 
 struct tenonwhisk_ticked {
     uint8_t number;
-    bool irq;
-    bool doubt;
+    bool irq;   /* this tick raised the interrupt */
+    bool doubt; /* this tick raised the doubt */
     int16_t left;
     int16_t right;
 };
 
-/* One tick (1/44100 s), of a pair of CD samples. */
-struct tenonwhisk_ticked tenonwhisk_tick(uint8_t *state, size_t state_len, uint8_t *ram, size_t ram_len, uint8_t *marks, size_t marks_len,
-                                         int16_t cd_left, int16_t cd_right);
+/* Makes one tick, 1/44100 s, with a pair of CD samples. Returns the pair that is heard. Numbers: 0, 1, 2. */
+struct tenonwhisk_ticked tenonwhisk_tick(uint8_t *state, size_t state_len, uint8_t *ram, size_t ram_len, uint8_t *marks,
+                                         size_t marks_len, int16_t cd_left, int16_t cd_right);
 
 struct tenonwhisk_ticked_floats {
     uint8_t number;
@@ -98,34 +171,41 @@ struct tenonwhisk_ticked_floats {
     float right;
 };
 
-/* The same, each sample divided by 32768. */
-struct tenonwhisk_ticked_floats tenonwhisk_tick_floats(uint8_t *state, size_t state_len, uint8_t *ram, size_t ram_len, uint8_t *marks,
-                                                       size_t marks_len, int16_t cd_left, int16_t cd_right);
+/* Does what tenonwhisk_tick does. Returns each sample divided by 32768. Numbers: 0, 1, 2. */
+struct tenonwhisk_ticked_floats tenonwhisk_tick_floats(uint8_t *state, size_t state_len, uint8_t *ram, size_t ram_len,
+                                                       uint8_t *marks, size_t marks_len, int16_t cd_left,
+                                                       int16_t cd_right);
 
 struct tenonwhisk_ran {
     uint8_t number;
     size_t count; /* ticks */
-    size_t irq;   /* the tick, from 0, that raised the interrupt; count where none did. Only register writes clear it, so no second one can */
-    size_t doubt; /* the tick that raised the doubt; count where none did */
+    size_t irq;   /* the tick, from 0, that raised the interrupt; count if none did. Only a register write clears the
+                     interrupt, so no run raises it twice */
+    size_t doubt; /* the tick, from 0, that raised the doubt; count if none did */
 };
 
-/* A tick for each pair of out (left, right, left, ..), of as many pairs of CD samples: cd_len equals out_len, and both are even. */
-struct tenonwhisk_ran tenonwhisk_run(uint8_t *state, size_t state_len, uint8_t *ram, size_t ram_len, uint8_t *marks, size_t marks_len,
-                                     const int16_t *cd, size_t cd_len, int16_t *out, size_t out_len);
+/* Makes a tick for each pair of out (left, right, left, ..). cd holds as many pairs of CD samples: cd_len is out_len.
+ * Numbers: 0, 1, 2, 9. */
+struct tenonwhisk_ran tenonwhisk_run(uint8_t *state, size_t state_len, uint8_t *ram, size_t ram_len, uint8_t *marks,
+                                     size_t marks_len, const int16_t *cd, size_t cd_len, int16_t *out, size_t out_len);
 
-/* The same, and the samples as floats beside: floats_len equals out_len too. */
-struct tenonwhisk_ran tenonwhisk_run_floats(uint8_t *state, size_t state_len, uint8_t *ram, size_t ram_len, uint8_t *marks, size_t marks_len,
-                                            const int16_t *cd, size_t cd_len, int16_t *out, size_t out_len, float *floats, size_t floats_len);
+/* Does what tenonwhisk_run does. Writes each sample divided by 32768 to floats too: floats_len is out_len. Numbers:
+ * 0, 1, 2, 9. */
+struct tenonwhisk_ran tenonwhisk_run_floats(uint8_t *state, size_t state_len, uint8_t *ram, size_t ram_len,
+                                            uint8_t *marks, size_t marks_len, const int16_t *cd, size_t cd_len,
+                                            int16_t *out, size_t out_len, float *floats, size_t floats_len);
 
 /* ---- a look at a block */
 
-/* The number that the view of the block at address gives. */
-uint8_t tenonwhisk_view_number(const uint8_t *state, size_t state_len, const uint8_t *ram, size_t ram_len, uint32_t address);
+/* Says whether tenonwhisk_block_view gives the block at address. Only reads what is lent. Returns 0, 1, 2 or 8. */
+uint8_t tenonwhisk_view_number(const uint8_t *state, size_t state_len, const uint8_t *ram, size_t ram_len,
+                               uint32_t address);
 
-/* The sixteen bytes of the block, in the host's own RAM; NULL where the view is refused. */
-static inline const uint8_t *tenonwhisk_block_view(const uint8_t *state, size_t state_len, const uint8_t *ram, size_t ram_len, uint32_t address)
+/* Returns the sixteen bytes of the block at address, which stand in the host's own RAM. Returns NULL if refused. */
+static inline const uint8_t *tenonwhisk_block_view(const uint8_t *state, size_t state_len, const uint8_t *ram,
+                                                   size_t ram_len, uint32_t address)
 {
-    return tenonwhisk_view_number(state, state_len, ram, ram_len, address) == 0 ? ram + address : NULL;
+    return tenonwhisk_view_number(state, state_len, ram, ram_len, address) == TENONWHISK_DONE ? ram + address : NULL;
 }
 
 #ifdef __cplusplus

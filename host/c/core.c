@@ -26,7 +26,7 @@ void core_free(struct core *core)
     core->ram = core->marks = NULL;
 }
 
-struct tenonwhisk_status core_status(const struct core *core)
+struct tenonwhisk_overview core_status(const struct core *core)
 {
     return tenonwhisk_status(STATE);
 }
@@ -84,21 +84,4 @@ uint8_t core_view_number(const struct core *core, uint32_t address)
 const uint8_t *core_block_view(const struct core *core, uint32_t address)
 {
     return tenonwhisk_block_view(STATE, RAM, address);
-}
-
-const char *refusal_words(uint8_t number)
-{
-    static const char *const words[] = {
-        "done",
-        "sound RAM or marks are of another length than the state asks",
-        "the bytes are no state",
-        "there is no register at this offset",
-        "this register can only be read",
-        "this register, or this value of it, is not carried",
-        "another transfer mode is applied (SPUCNT bits 5-4 act from the next tick on)",
-        "a transfer moves 1 to 32 halfwords",
-        "no block begins at this address",
-        "the buffers are not of whole pairs, or of different lengths",
-    };
-    return number < sizeof words / sizeof *words ? words[number] : "unknown";
 }

@@ -1,4 +1,4 @@
-/* A core with memory of its own, for the programs here: the calls of tenonwhisk.h with everything lent. */
+/* A core with memory of its own, for the programs here: each call of tenonwhisk.h, with everything lent. */
 #ifndef CORE_H
 #define CORE_H
 
@@ -11,11 +11,11 @@ struct core {
     uint8_t *marks;
 };
 
-/* A fresh state, with RAM and marks zero. False for want of memory, or of another size than the two. */
+/* Makes a fresh state, with RAM and marks zero. Returns false for a size other than the two, or if memory runs out. */
 bool core_make(struct core *core, uint32_t size);
 void core_free(struct core *core);
 
-struct tenonwhisk_status core_status(const struct core *core);
+struct tenonwhisk_overview core_status(const struct core *core);
 uint8_t core_reset(struct core *core);
 uint8_t core_write(struct core *core, uint32_t offset, uint16_t value);
 struct tenonwhisk_reading core_read(const struct core *core, uint32_t offset);
@@ -27,8 +27,5 @@ struct tenonwhisk_ran core_run(struct core *core, const int16_t *cd, int16_t *ou
 struct tenonwhisk_ran core_run_floats(struct core *core, const int16_t *cd, int16_t *out, float *floats, size_t pairs);
 uint8_t core_view_number(const struct core *core, uint32_t address);
 const uint8_t *core_block_view(const struct core *core, uint32_t address);
-
-/* What a number says, in plain words. */
-const char *refusal_words(uint8_t number);
 
 #endif

@@ -90,8 +90,8 @@ static struct outcome run_reset(const struct lent *lent)
 
 static struct outcome run_status(const struct lent *lent)
 {
-    struct tenonwhisk_status status = tenonwhisk_status(LEND(STATE));
-    return (struct outcome){status.number, !status.doubt && status.size == 0 && status.tick == 0};
+    struct tenonwhisk_overview overview = tenonwhisk_status(LEND(STATE));
+    return (struct outcome){overview.number, !overview.doubt && overview.size == 0 && overview.tick == 0};
 }
 
 static struct outcome run_write(const struct lent *lent)

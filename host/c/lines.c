@@ -12,7 +12,6 @@ bool lines_next(struct lines *lines, struct piece *line)
         return false;
     if (lines->text[length - 1] == '\n')
         length--;
-    lines->number++;
     *line = (struct piece){lines->text, (size_t)length};
     return true;
 }

@@ -1,13 +1,15 @@
-/* replay L: every call through the C interface, one answer to each line of standard input, as docs/PROGRAMS.md says. Of
- * up to SHORT_RUN ticks each is a call of its own; more are runs. */
+/* replay L: every call through the C interface. It answers each line of standard input as docs/PROGRAMS.md says. Up to
+ * SHORT_RUN ticks are made by a call each; more are made by runs. */
 #include "core.h"
-#include "script.h"
+#include "lines.h"
 
+#include <errno.h>
 #include <inttypes.h>
 #include <stdlib.h>
 #include <string.h>
 
-enum { SHORT_RUN = 3, CHUNK_PAIRS = 4096, MOST_OUTWARD = 64, MOST_SHOWN = 64 };
+enum { SHORT_RUN = 3, CHUNK_PAIRS = 4096, MOST_TICKS = 65535, MOST_OUTWARD = 64, MOST_SHOWN = 64 };
+enum { MOST_INWARD = 33 }; /* one halfword more than a transfer moves stands for any number more */
 
 /* ---- printing */
 
@@ -109,7 +111,7 @@ static void run_chunk(struct core *core, struct ticks ticks, bool floats)
         cd[2 * k] = ticks.cd_left;
         cd[2 * k + 1] = ticks.cd_right;
     }
-    struct tenonwhisk_status before = core_status(core);
+    struct tenonwhisk_overview before = core_status(core);
     struct tenonwhisk_ran ran =
         floats ? core_run_floats(core, cd, out, out_floats, ticks.count) : core_run(core, cd, out, ticks.count);
     for (size_t k = 0; k < ran.count; k++) {
@@ -161,9 +163,23 @@ static bool read_register(struct core *core, struct piece *line)
     return true;
 }
 
+/* Takes the values of a transfer, up to the end of the line. */
+static bool take_values(struct piece *line, uint16_t values[MOST_INWARD], size_t *count)
+{
+    *count = 0;
+    while (!no_more_fields(*line)) {
+        uint32_t value;
+        if (!take_hex(line, 1, 4, &value))
+            return false;
+        if (*count < MOST_INWARD)
+            values[(*count)++] = (uint16_t)value;
+    }
+    return *count > 0;
+}
+
 static bool transfer_in(struct core *core, struct piece *line)
 {
-    uint16_t values[MOST_VALUES];
+    uint16_t values[MOST_INWARD];
     size_t count;
     if (!take_values(line, values, &count))
         return false;
@@ -292,6 +308,36 @@ static bool is_silent(struct piece line)
     return no_more_fields(line) || line.text[0] == '#';
 }
 
+/* ---- the session */
+
+static bool complain(const char *what)
+{
+    fprintf(stderr, "cannot %s: %s\n", what, strerror(errno));
+    return false;
+}
+
+/* Answers up to the end of the input, or up to a failed read or write. */
+static void answer_all(struct core *core, struct lines *lines)
+{
+    struct piece line;
+    while (!ferror(stdout) && lines_next(lines, &line))
+        if (!is_silent(line) && !answer(core, line))
+            puts("bad line");
+}
+
+static bool replay(struct core *core)
+{
+    struct lines lines = {.file = stdin};
+    printf("replay %" PRIu32 "\n", core->size);
+    answer_all(core, &lines);
+    bool read = ferror(stdout) || feof(stdin) || complain("read standard input");
+    if (feof(stdin))
+        puts(core_status(core).doubt ? "end doubt" : "end clear");
+    bool written = (fflush(stdout) == 0 && !ferror(stdout)) || complain("write standard output");
+    lines_free(&lines);
+    return read && written;
+}
+
 int main(int argc, char **argv)
 {
     struct core core;
@@ -303,15 +349,7 @@ int main(int argc, char **argv)
         fputs("not enough memory\n", stderr);
         return EXIT_FAILURE;
     }
-    printf("replay %s\n", argv[1]);
-    struct lines lines = {.file = stdin};
-    struct piece line;
-    while (lines_next(&lines, &line))
-        if (!is_silent(line) && !answer(&core, line))
-            puts("bad line");
-    puts(core_status(&core).doubt ? "end doubt" : "end clear");
-    bool good = feof(stdin) && fflush(stdout) == 0 && !ferror(stdout);
-    lines_free(&lines);
+    bool good = replay(&core);
     core_free(&core);
     return good ? EXIT_SUCCESS : EXIT_FAILURE;
 }

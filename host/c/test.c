@@ -1,135 +1,19 @@
-/* test [IMAGES]: tests through the C interface; IMAGES damaged states are tried, 20,000 if not given, and some more of
- * the large sound RAM. */
-#include "core.h"
+/* test [IMAGES]: tests through the C interface. IMAGES damaged states are tried, 20,000 if it is not given, and a
+ * hundredth as many of the large sound RAM. */
+#include "check.h"
 #include "lent.h"
-#include "wav.h"
+#include "scenes.h"
 
-#include <stdarg.h>
 #include <stdio.h>
 #include <stdlib.h>
 #include <string.h>
 
-enum { SMALL = 65536, LARGE = 524288, PAIRS = 1000, IMAGES = 20000, MOST_STATE = 3000 };
-
-/* ---- checks and random numbers */
-
-static unsigned long checks, failures;
-
-static void check(bool good, const char *format, ...)
-{
-    checks++;
-    if (good)
-        return;
-    failures++;
-    va_list arguments;
-    va_start(arguments, format);
-    fputs("failed: ", stderr);
-    vfprintf(stderr, format, arguments);
-    fputc('\n', stderr);
-    va_end(arguments);
-}
-
-/* xorshift64*, of a seed that is not 0 */
-static uint32_t random32(uint64_t *seed)
-{
-    *seed ^= *seed >> 12;
-    *seed ^= *seed << 25;
-    *seed ^= *seed >> 27;
-    return (uint32_t)(*seed * 0x2545F4914F6CDD1D >> 32);
-}
-
-static uint32_t below(uint64_t *seed, uint32_t limit)
-{
-    return random32(seed) % limit;
-}
+enum { PAIRS = 1000, IMAGES = 20000, MOST_STATE = 3000 };
 
 static void random_samples(uint64_t *seed, int16_t *samples, size_t count)
 {
     for (size_t k = 0; k < count; k++)
         samples[k] = (int16_t)((int32_t)below(seed, 0x10000) - 0x8000);
-}
-
-/* ---- scenes */
-
-static void must_make(struct core *core, uint32_t size)
-{
-    if (core_make(core, size))
-        return;
-    fputs("not enough memory\n", stderr);
-    exit(EXIT_FAILURE);
-}
-
-struct setting {
-    uint32_t offset;
-    uint32_t value;
-};
-
-static void write_all(struct core *core, const struct setting *settings, size_t count)
-{
-    for (size_t k = 0; k < count; k++)
-        check(core_write(core, settings[k].offset, (uint16_t)settings[k].value) == 0, "write");
-}
-
-#define WRITE_ALL(core, ...)                                                                                           \
-    write_all(core, (const struct setting[]){__VA_ARGS__},                                                             \
-              sizeof(const struct setting[]){__VA_ARGS__} / sizeof(struct setting))
-
-/* SPUCNT, and a tick, after which its mode is applied */
-static void apply_control(struct core *core, uint32_t control)
-{
-    WRITE_ALL(core, {0x1AA, control});
-    core_tick(core, 0, 0);
-}
-
-/* Four random blocks at unit 200h, looped or running on into what follows. */
-static void load_sample(struct core *core, uint64_t *seed, bool looped)
-{
-    uint16_t halfwords[32];
-    for (size_t k = 0; k < 32; k++)
-        halfwords[k] = (uint16_t)random32(seed);
-    for (size_t block = 0; block < 4; block++) {
-        uint32_t flags = block == 0 ? 4 : block == 3 && looped ? 3 : 0;
-        halfwords[8 * block] = (uint16_t)(flags << 8 | below(seed, 5) << 4 | below(seed, 5));
-    }
-    apply_control(core, 0xC010);
-    WRITE_ALL(core, {0x1A6, 0x200});
-    check(core_transfer_in(core, halfwords, 32).count == 32, "a sample is loaded");
-}
-
-static void start_voices(struct core *core, uint64_t *seed)
-{
-    for (uint32_t at = 0; at < 0x180; at += 0x10)
-        WRITE_ALL(core, {at, below(seed, 0x8000)}, {at + 2, below(seed, 0x8000)}, {at + 4, 0x800 + below(seed, 0x1000)},
-                  {at + 6, 0x200}, {at + 8, 0x80FF}, {at + 10, 0x1FC0});
-    WRITE_ALL(core, {0x190, 0x0A0A}, {0x194, 0x0400}, {0x188, 0xFFFF}, {0x18A, 0xFF});
-}
-
-/* All is marked; the reverb has random registers, and the interrupt comes when capture reaches 200h. */
-static void start_reverb(struct core *core, uint64_t *seed)
-{
-    memset(core->marks, 0xFF, core->size / 16);
-    WRITE_ALL(core, {0x1A2, core->size / 8 - 0x800}, {0x184, 0x7FFF}, {0x186, 0x5000}, {0x198, 0xFFFF}, {0x19A, 0xFF},
-              {0x1B0, 0x4000}, {0x1B2, 0x6000}, {0x1A4, 0x40});
-    for (uint32_t offset = 0x1C0; offset < 0x200; offset += 2)
-        WRITE_ALL(core, {offset, below(seed, 0x8000)});
-    WRITE_ALL(core, {0x1AA, 0xC0C5});
-}
-
-/* Of an odd seed with reverb, CD and interrupt; of an even one it runs into memory that nobody loaded. */
-static void compose(struct core *core, uint64_t seed)
-{
-    bool reverb = seed % 2 == 1;
-    WRITE_ALL(core, {0x180, 0x3FFF}, {0x182, 0x2FFF});
-    load_sample(core, &seed, reverb);
-    start_voices(core, &seed);
-    if (reverb)
-        start_reverb(core, &seed);
-}
-
-static void must_make_composed(struct core *core, uint32_t size, uint64_t seed)
-{
-    must_make(core, size);
-    compose(core, seed);
 }
 
 static bool same_cores(const struct core *a, const struct core *b)
@@ -442,8 +326,9 @@ static void test_make(void)
     check(tenonwhisk_make(LARGE, other, sizeof small - 1) == 2, "make of fewer bytes gives 2");
     check(memcmp(other, untouched, sizeof other) == 0, "and writes none");
     check(tenonwhisk_make(LARGE, other, sizeof small) == 0, "make");
-    struct tenonwhisk_status status = tenonwhisk_status(other, sizeof small);
-    check(status.number == 0 && status.size == LARGE && status.tick == 0 && !status.doubt, "status of a fresh state");
+    struct tenonwhisk_overview overview = tenonwhisk_status(other, sizeof small);
+    check(overview.number == 0 && overview.size == LARGE && overview.tick == 0 && !overview.doubt,
+          "status of a fresh state");
 }
 
 static void test_reset(uint32_t size)
@@ -680,17 +565,18 @@ static void test_block_at_end(void)
     core_free(&core);
 }
 
-/* ---- the WAV file's end */
+/* ---- words */
 
-static void test_wav_limit(void)
+static void test_words(void)
 {
-    const int16_t samples[6] = {0};
-    struct wav wav;
-    check(wav_open(&wav, "/dev/null") == NULL, "open a WAV file");
-    wav.pairs = WAV_MOST_PAIRS - 2;
-    check(wav_write(&wav, samples, 1) == NULL && wav.pairs == WAV_MOST_PAIRS - 1, "the last but one fits");
-    check(wav_write(&wav, samples, 3) != NULL && wav.pairs == WAV_MOST_PAIRS, "one of three fits, and it says so");
-    check(wav_close(&wav) == NULL, "and the file is good");
+    const char *none = "a number that no call gives";
+    check(strcmp(tenonwhisk_words(TENONWHISK_DONE), "done") == 0, "0 is done");
+    for (uint8_t number = 0; number <= TENONWHISK_BUFFERS; number++)
+        for (uint8_t other = 0; other < number; other++)
+            check(strcmp(tenonwhisk_words(number), tenonwhisk_words(other)) != 0, "%d and %d differ", number, other);
+    for (unsigned number = 0; number <= UINT8_MAX; number++)
+        check((strcmp(tenonwhisk_words((uint8_t)number), none) == 0) == (number > TENONWHISK_BUFFERS), "words of %u",
+              number);
 }
 
 static void test_size(uint32_t size)
@@ -720,7 +606,6 @@ int main(int argc, char **argv)
     test_lowest_mix();
     test_33_halfwords();
     test_block_at_end();
-    test_wav_limit();
-    printf("%lu checks, %lu failed\n", checks, failures);
-    return failures == 0 ? EXIT_SUCCESS : EXIT_FAILURE;
+    test_words();
+    return all_passed() ? EXIT_SUCCESS : EXIT_FAILURE;
 }

@@ -1,0 +1,208 @@
+/* stack: prints how many bytes of stack each call uses at most, done and refused, with both sizes of sound RAM. Fails
+ * if one uses more than TENONWHISK_STACK_BYTES.
+ *
+ * Each call runs on a thread whose stack was filled with a pattern. What the call used reaches from the thread's own
+ * frame to the lowest word that does not hold the pattern any more. */
+#define _POSIX_C_SOURCE 200809L
+#include "check.h"
+#include "lent.h"
+#include "scenes.h"
+
+#include <pthread.h>
+#include <stdio.h>
+#include <stdlib.h>
+#include <string.h>
+
+enum { STACK_WORDS = 1 << 15, STACK_BYTES = STACK_WORDS * sizeof(uint32_t), ALIGNMENT = 4096 };
+enum { MAKE = CALLS, ALL_CALLS };
+
+static uint32_t *stack;
+static size_t largest[ALL_CALLS];
+static unsigned long runs;
+
+/* ---- one call on a stack of its own */
+
+static uint32_t pattern(size_t k)
+{
+    return (uint32_t)k * 2654435761u + 0x9E3779B9u;
+}
+
+static void paint(void)
+{
+    for (size_t k = 0; k < STACK_WORDS; k++)
+        stack[k] = pattern(k);
+}
+
+static size_t untouched_words(void)
+{
+    size_t k = 0;
+    while (k < STACK_WORDS && stack[k] == pattern(k))
+        k++;
+    return k;
+}
+
+struct job {
+    struct outcome (*run)(const struct lent *lent);
+    const struct lent *lent;
+    uint8_t number;
+    uintptr_t frame;
+};
+
+static void *do_job(void *argument)
+{
+    struct job *job = argument;
+    uint8_t here = 0;
+    job->frame = (uintptr_t)&here;
+    job->number = job->run(job->lent).number;
+    return NULL;
+}
+
+static void must(bool good, const char *what)
+{
+    if (good)
+        return;
+    fprintf(stderr, "%s failed\n", what);
+    exit(EXIT_FAILURE);
+}
+
+static size_t stack_used(struct job *job)
+{
+    pthread_attr_t attributes;
+    pthread_t thread;
+    paint();
+    must(pthread_attr_init(&attributes) == 0 && pthread_attr_setstack(&attributes, stack, STACK_BYTES) == 0 &&
+             pthread_create(&thread, &attributes, do_job, job) == 0 && pthread_join(thread, NULL) == 0,
+         "a thread");
+    pthread_attr_destroy(&attributes);
+    return job->frame - (uintptr_t)(stack + untouched_words());
+}
+
+/* ---- all calls */
+
+static struct outcome run_make(const struct lent *lent)
+{
+    uint32_t size = (uint32_t)lent->buffers[RAM].count;
+    return (struct outcome){tenonwhisk_make(size, lent_state(lent), lent->buffers[STATE].count), true};
+}
+
+static const char *name_of(int which)
+{
+    return which == MAKE ? "make" : calls[which].name;
+}
+
+static void measure(int which, const struct lent *lent)
+{
+    struct lent copy;
+    lent_copy(&copy, lent);
+    struct job job = {.run = which == MAKE ? run_make : calls[which].run, .lent = &copy};
+    size_t used = stack_used(&job);
+    if (used > largest[which])
+        largest[which] = used;
+    check(which == MAKE || job.number == expected_number(&calls[which], lent), "%s gives its number", name_of(which));
+    check(used <= TENONWHISK_STACK_BYTES, "%s uses %zu bytes of stack", name_of(which), used);
+    runs++;
+    lent_free(&copy);
+}
+
+static void measure_all(const struct lent *lent)
+{
+    for (int which = 0; which < ALL_CALLS; which++)
+        measure(which, lent);
+}
+
+static void measure_resized(const struct lent *lent, enum which buffer, size_t count)
+{
+    struct lent resized;
+    lent_copy(&resized, lent);
+    lent_resize(&resized, buffer, count);
+    measure_all(&resized);
+    lent_free(&resized);
+}
+
+/* ---- what they are lent */
+
+static void lend_core(struct lent *lent, const struct core *core)
+{
+    lent_make(lent, core->size);
+    memcpy(lent->buffers[STATE].data, core->state, sizeof core->state);
+    memcpy(lent->buffers[RAM].data, core->ram, core->size);
+    memcpy(lent->buffers[MARKS].data, core->marks, core->size / 16);
+}
+
+static void measure_registers(struct lent *lent)
+{
+    const uint16_t values[] = {0, 4, 0x7FFF, 0xFFFF};
+    for (lent->offset = 0; lent->offset <= 0x200; lent->offset++)
+        for (size_t k = 0; k < sizeof values / sizeof *values; k++) {
+            lent->value = values[k];
+            measure(WRITE, lent);
+            measure(READ, lent);
+        }
+    lent->offset = 0;
+}
+
+static void measure_refused(struct lent *lent)
+{
+    const enum which buffers[] = {STATE, RAM, MARKS, VALUES, OUTWARD, CD, SAMPLES, FLOATS};
+    for (size_t k = 0; k < sizeof buffers / sizeof *buffers; k++) {
+        measure_resized(lent, buffers[k], 0);
+        measure_resized(lent, buffers[k], lent->buffers[buffers[k]].count + 1);
+    }
+    lent->address = 4;
+    measure_all(lent);
+    lent->address = 0;
+    for (size_t k = 0; k < TENONWHISK_STATE_BYTES; k += 100) {
+        lent_state(lent)[k] ^= 0xFF;
+        measure_all(lent);
+        lent_state(lent)[k] ^= 0xFF;
+    }
+}
+
+/* A core that plays, with a transfer mode applied. */
+static void measure_playing(uint32_t size, uint64_t seed, uint32_t control)
+{
+    static int16_t cd[200], out[200];
+    struct core core;
+    struct lent lent;
+    must_make_composed(&core, size, seed);
+    apply_control(&core, control);
+    core_run(&core, cd, out, 100);
+    lend_core(&lent, &core);
+    measure_all(&lent);
+    measure_refused(&lent);
+    if (size == SMALL)
+        measure_registers(&lent);
+    lent_free(&lent);
+    core_free(&core);
+}
+
+static void measure_fresh(uint32_t size)
+{
+    struct lent lent;
+    lent_make(&lent, size);
+    measure_all(&lent);
+    lent_free(&lent);
+}
+
+static void print_largest(void)
+{
+    printf("bytes of stack, in %lu calls:\n", runs);
+    for (int which = 0; which < ALL_CALLS; which++)
+        printf("%-12s %6zu\n", name_of(which), largest[which]);
+    printf("%-12s %6d\n", "allowed", TENONWHISK_STACK_BYTES);
+}
+
+int main(void)
+{
+    stack = aligned_alloc(ALIGNMENT, STACK_BYTES);
+    must(stack != NULL, "memory for a stack");
+    const uint32_t sizes[] = {SMALL, LARGE};
+    for (size_t k = 0; k < 2; k++) {
+        measure_fresh(sizes[k]);
+        measure_playing(sizes[k], 1, 0xC0D5);
+        measure_playing(sizes[k], 2, 0xC030);
+    }
+    free(stack);
+    print_largest();
+    return all_passed() ? EXIT_SUCCESS : EXIT_FAILURE;
+}
