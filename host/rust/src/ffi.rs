@@ -3,10 +3,10 @@
 //! What the header asks of a caller holds of any slices: their pointers are not null and stand for as many elements as
 //! their lengths say, and a mutable slice overlaps no other.
 
-use std::ffi::c_float;
+use core::ffi::c_float;
 
 #[repr(C)]
-pub struct Status {
+pub struct Overview {
     pub number: u8,
     pub doubt: bool,
     pub size: u32,
@@ -48,7 +48,7 @@ pub struct Ran {
 unsafe extern "C" {
     fn tenonwhisk_make(size: u32, state: *mut u8, state_len: usize) -> u8;
     fn tenonwhisk_reset(state: *mut u8, state_len: usize) -> u8;
-    fn tenonwhisk_status(state: *const u8, state_len: usize) -> Status;
+    fn tenonwhisk_status(state: *const u8, state_len: usize) -> Overview;
     fn tenonwhisk_write(state: *mut u8, state_len: usize, offset: u32, value: u16) -> u8;
     fn tenonwhisk_read(state: *const u8, state_len: usize, offset: u32) -> Reading;
     fn tenonwhisk_transfer_in(
@@ -90,7 +90,7 @@ pub fn reset(state: &mut [u8]) -> u8 {
     unsafe { tenonwhisk_reset(state.as_mut_ptr(), state.len()) }
 }
 
-pub fn status(state: &[u8]) -> Status {
+pub fn status(state: &[u8]) -> Overview {
     // SAFETY: the pointer and the length are those of a slice, which is only read.
     unsafe { tenonwhisk_status(state.as_ptr(), state.len()) }
 }

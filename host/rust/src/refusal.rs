@@ -1,34 +1,34 @@
-use std::error::Error;
-use std::fmt;
+use core::error::Error;
+use core::fmt;
 
 /// Why a call was refused. A refused call changes nothing.
 ///
-/// Where more than one reason applies, the one with the lowest number is given.
+/// Where several reasons apply, the call returns the one with the lowest number.
 #[derive(Debug, Clone, Copy, PartialEq, Eq, Hash)]
 #[non_exhaustive]
 pub enum Refusal {
-    /// 1: sound RAM or marks are of another length than the state asks.
+    /// 1: sound RAM or marks do not have the size that the state was made for.
     Memory = 1,
-    /// 2: the bytes are no state, or a field of it is outside its range.
+    /// 2: the bytes are not a state, or a field of the state is out of range.
     State = 2,
     /// 3: the register offset is odd or not listed.
     Offset = 3,
-    /// 4: a register that can only be read was written.
+    /// 4: a write to a register that can only be read.
     ReadOnly = 4,
     /// 5: the register, or this value of it, is not carried.
     NotCarried = 5,
     /// 6: another transfer mode is applied.
     Mode = 6,
-    /// 7: no halfwords, or more than 32.
+    /// 7: a transfer of no halfwords, or of more than 32.
     Count = 7,
-    /// 8: the block address is not a multiple of 8, or beyond the last block.
+    /// 8: the block address is not a multiple of 8, or fewer than 16 bytes follow.
     Address = 8,
-    /// 9: the buffers of a run are not of whole pairs, or of different lengths.
+    /// 9: the buffers of a run do not hold whole pairs, or have different lengths.
     Buffers = 9,
 }
 
 impl Refusal {
-    /// The number that the C interface gives, 1 to 9.
+    /// The number that the C interface returns, 1 to 9.
     pub fn number(self) -> u8 {
         self as u8
     }
@@ -51,18 +51,27 @@ impl Refusal {
     }
 }
 
+/// The words of `tenonwhisk_words`.
 impl fmt::Display for Refusal {
     fn fmt(&self, f: &mut fmt::Formatter<'_>) -> fmt::Result {
         f.write_str(match self {
-            Refusal::Memory => "sound RAM or marks are of another length than the state asks",
-            Refusal::State => "the bytes are no state",
+            Refusal::Memory => {
+                "sound RAM or marks do not have the size that the state was made for \
+                 (RAM 65,536 or 524,288 bytes, marks a sixteenth)"
+            }
+            Refusal::State => "the bytes are not a state, or a field of the state is out of range",
             Refusal::Offset => "there is no register at this offset",
             Refusal::ReadOnly => "this register can only be read",
             Refusal::NotCarried => "this register, or this value of it, is not carried",
-            Refusal::Mode => "another transfer mode is applied (SPUCNT bits 5-4 act from the next tick on)",
+            Refusal::Mode => {
+                "another transfer mode is applied (SPUCNT bits 5-4 act from the next tick on); \
+                 mode 1 or 2 moves inward, 3 outward"
+            }
             Refusal::Count => "a transfer moves 1 to 32 halfwords",
-            Refusal::Address => "no block begins at this address",
-            Refusal::Buffers => "the buffers are not of whole pairs, or of different lengths",
+            Refusal::Address => {
+                "no block begins at this address: it is not a multiple of 8, or fewer than 16 bytes follow"
+            }
+            Refusal::Buffers => "the buffers do not hold whole pairs, or have different lengths",
         })
     }
 }

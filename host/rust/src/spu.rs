@@ -1,18 +1,26 @@
-use crate::{ffi, Refusal, Size, State};
+#[cfg(feature = "alloc")]
+use alloc::{vec, vec::Vec};
+use core::fmt;
+
+#[cfg(feature = "alloc")]
+use crate::Size;
+use crate::{ffi, Refusal, Rejected, State};
 
 /// What a transfer did.
 #[derive(Debug, Clone, Copy, PartialEq, Eq)]
+#[non_exhaustive]
 pub struct Moved {
     /// Halfwords that were moved.
     pub count: usize,
     /// Whether it raised the interrupt.
     pub irq: bool,
-    /// Whether it raised the doubt: it read a halfword that nobody loaded, the first since a reset.
+    /// Whether it raised the doubt: it was the first since a reset to read a halfword that nobody loaded.
     pub doubt: bool,
 }
 
 /// What a tick gave: its pair of samples, [`i16`] or [`f32`].
 #[derive(Debug, Clone, Copy, PartialEq)]
+#[non_exhaustive]
 pub struct Ticked<S> {
     /// The left sample.
     pub left: S,
@@ -26,25 +34,27 @@ pub struct Ticked<S> {
 
 /// What a run of ticks gave besides its samples. Ticks are counted from 0 within the run.
 #[derive(Debug, Clone, Copy, PartialEq, Eq)]
+#[non_exhaustive]
 pub struct Ran {
-    /// Ticks, a pair of samples each.
+    /// How many ticks were made, a pair of samples each.
     pub count: usize,
-    /// The tick that raised the interrupt.
+    /// The tick that raised the interrupt, if one did.
     pub irq: Option<usize>,
-    /// The tick that raised the doubt.
+    /// The tick that raised the doubt, if one did.
     pub doubt: Option<usize>,
 }
 
 /// The sound chip: a [`State`] with sound RAM and marks.
 ///
-/// `M` is what RAM and marks are kept in: `Vec<u8>` if the chip owns them ([`Spu::new`]), `&mut [u8]` if they are lent
+/// `M` holds RAM and marks. It is `Vec<u8>` if the chip owns them (`Spu::new`), `&mut [u8]` if they are lent
 /// ([`Spu::with_memory`]), or any other kind of bytes. Bit `h % 8` of the marks' byte `h / 8` says that the halfword of
-/// RAM at address `2 * h` is loaded. Their lengths are checked once, so that a tick is refused only if an `M` of an
-/// unusual kind changes its length.
+/// RAM at address `2 * h` is loaded. The lengths are checked once, so a tick is refused only if an `M` of an unusual kind
+/// changes its length later.
 ///
-/// Nothing is shared between chips: any number of them run side by side, on any threads.
+/// Chips share nothing: any number of them run side by side, on any threads. A call uses up to 32 KiB of stack.
 ///
-/// ```
+#[cfg_attr(feature = "alloc", doc = "```")]
+#[cfg_attr(not(feature = "alloc"), doc = "```ignore")]
 /// use tenonwhisk::{Refusal, Size, Spu};
 ///
 /// let mut spu = Spu::new(Size::K64);
@@ -64,22 +74,24 @@ pub struct Ran {
 /// assert_eq!(spu.tick_number(), 442);
 /// # Ok::<(), Refusal>(())
 /// ```
-#[derive(Debug, Clone)]
-pub struct Spu<M = Vec<u8>> {
+#[derive(Clone)]
+pub struct Spu<#[cfg(feature = "alloc")] M = Vec<u8>, #[cfg(not(feature = "alloc"))] M> {
     state: State,
     ram: M,
     marks: M,
 }
 
+#[cfg(feature = "alloc")]
 impl Spu {
-    /// A fresh chip that owns its memory: RAM and marks are zero.
+    /// Makes a fresh chip that owns its memory. RAM and marks are zero.
     pub fn new(size: Size) -> Spu {
         Spu { state: State::new(size), ram: vec![0; size.ram_bytes()], marks: vec![0; size.marks_bytes()] }
     }
 }
 
 impl<M: AsRef<[u8]> + AsMut<[u8]>> Spu<M> {
-    /// A chip over memory that stands elsewhere. RAM or marks of other lengths than the state's size asks are refused.
+    /// Makes a chip over memory that is handed in. RAM and marks must have the lengths that the state's size asks for; if
+    /// not, [`Rejected`] gives everything back.
     ///
     /// ```
     /// use tenonwhisk::{Refusal, Size, Spu, State};
@@ -89,28 +101,32 @@ impl<M: AsRef<[u8]> + AsMut<[u8]>> Spu<M> {
     /// spu.tick(0, 0)?;
     /// let (state, ..) = spu.into_parts();
     /// assert_eq!(marks[0], 1); // the tick captured a CD sample at address 0
-    /// assert_eq!(Spu::with_memory(state, &mut ram[1..], &mut marks[..]).unwrap_err(), Refusal::Memory);
+    ///
+    /// let rejected = Spu::with_memory(state, &mut ram[1..], &mut marks[..]).unwrap_err();
+    /// assert_eq!(rejected.refusal, Refusal::Memory);
+    /// assert_eq!(rejected.ram.len(), 65535);
     /// # Ok::<(), Refusal>(())
     /// ```
-    pub fn with_memory(state: State, ram: M, marks: M) -> Result<Spu<M>, Refusal> {
+    #[allow(clippy::result_large_err)] // it gives back what came in by value
+    pub fn with_memory(state: State, ram: M, marks: M) -> Result<Spu<M>, Rejected<M>> {
         let size = state.size();
         if ram.as_ref().len() != size.ram_bytes() || marks.as_ref().len() != size.marks_bytes() {
-            return Err(Refusal::Memory);
+            return Err(Rejected { refusal: Refusal::Memory, state, ram, marks });
         }
         Ok(Spu { state, ram, marks })
     }
 
-    /// Gives back state, RAM and marks.
+    /// Gives back the state, RAM and marks.
     pub fn into_parts(self) -> (State, M, M) {
         (self.state, self.ram, self.marks)
     }
 
-    /// The state, to look at or to clone.
+    /// The state, to look at, to save or to clone.
     pub fn state(&self) -> &State {
         &self.state
     }
 
-    /// Goes on from another state, such as one that was saved. One of another size is refused.
+    /// Goes on from another state, such as a saved one. A state for another size is refused.
     pub fn set_state(&mut self, state: State) -> Result<(), Refusal> {
         if state.size() != self.state.size() {
             return Err(Refusal::Memory);
@@ -124,7 +140,8 @@ impl<M: AsRef<[u8]> + AsMut<[u8]>> Spu<M> {
         self.ram.as_ref()
     }
 
-    /// Sound RAM, to be changed past the chip: such bytes are loaded only if [`Spu::marks_mut`] says so.
+    /// Sound RAM, to change it past the chip. Bytes that come in this way count as loaded only if their marks are set
+    /// through [`Spu::marks_mut`].
     pub fn ram_mut(&mut self) -> &mut [u8] {
         self.ram.as_mut()
     }
@@ -134,12 +151,12 @@ impl<M: AsRef<[u8]> + AsMut<[u8]>> Spu<M> {
         self.marks.as_ref()
     }
 
-    /// The marks, to be changed past the chip.
+    /// The marks, to change them past the chip.
     pub fn marks_mut(&mut self) -> &mut [u8] {
         self.marks.as_mut()
     }
 
-    /// Whether what is heard may rest on bytes of sound RAM that nobody loaded. It stays until a reset.
+    /// Whether the sound may rest on bytes of sound RAM that nobody loaded. The doubt stays until a reset.
     pub fn doubt(&self) -> bool {
         self.state.doubt()
     }
@@ -149,7 +166,7 @@ impl<M: AsRef<[u8]> + AsMut<[u8]>> Spu<M> {
         self.state.tick_number()
     }
 
-    /// The state as made; RAM and marks stay.
+    /// Resets the state to a fresh one. RAM and marks stay.
     pub fn reset(&mut self) {
         self.state.reset();
     }
@@ -166,41 +183,42 @@ impl<M: AsRef<[u8]> + AsMut<[u8]>> Spu<M> {
 
     /// Moves 1 to 32 halfwords to sound RAM, at the transfer address, and marks them.
     ///
-    /// SPUCNT's transfer mode (bits 5-4) has to have been 1 or 2 at the last tick.
+    /// SPUCNT's transfer mode (bits 5-4) must have been 1 or 2 at the last tick.
     pub fn transfer_in(&mut self, values: &[u16]) -> Result<Moved, Refusal> {
         moved(ffi::transfer_in(self.state.bytes_mut(), self.ram.as_mut(), self.marks.as_mut(), values))
     }
 
-    /// Moves 1 to 32 halfwords from sound RAM, at the transfer address: as many as `out` holds.
+    /// Moves 1 to 32 halfwords from sound RAM, at the transfer address, to `out`: as many as it holds.
     ///
-    /// SPUCNT's transfer mode (bits 5-4) has to have been 3 at the last tick.
+    /// SPUCNT's transfer mode (bits 5-4) must have been 3 at the last tick.
     pub fn transfer_out(&mut self, out: &mut [u16]) -> Result<Moved, Refusal> {
         moved(ffi::transfer_out(self.state.bytes_mut(), self.ram.as_ref(), self.marks.as_ref(), out))
     }
 
-    /// One tick, 1/44100 s, of a pair of CD samples.
+    /// Makes one tick, 1/44100 s, with a pair of CD samples.
     pub fn tick(&mut self, cd_left: i16, cd_right: i16) -> Result<Ticked<i16>, Refusal> {
         let state = self.state.bytes_mut();
         ticked(ffi::tick(state, self.ram.as_mut(), self.marks.as_mut(), cd_left, cd_right))
     }
 
-    /// One tick as [`Spu::tick`], each sample divided by 32768.
+    /// Does what [`Spu::tick`] does, and returns each sample divided by 32768.
     pub fn tick_floats(&mut self, cd_left: i16, cd_right: i16) -> Result<Ticked<f32>, Refusal> {
         let state = self.state.bytes_mut();
         ticked(ffi::tick_floats(state, self.ram.as_mut(), self.marks.as_mut(), cd_left, cd_right))
     }
 
-    /// A tick for each pair of `out` (left, right, left, ..), of as many pairs of CD samples.
+    /// Makes a tick for each pair of `out` (left, right, left, ..). `cd` holds as many pairs of CD samples.
     pub fn run(&mut self, cd: &[i16], out: &mut [i16]) -> Result<Ran, Refusal> {
         ran(ffi::run(self.state.bytes_mut(), self.ram.as_mut(), self.marks.as_mut(), cd, out))
     }
 
-    /// A run as [`Spu::run`], with each sample divided by 32768 in `floats` beside.
+    /// Does what [`Spu::run`] does, and writes each sample divided by 32768 to `floats` too, which is as long as `out`.
     pub fn run_floats(&mut self, cd: &[i16], out: &mut [i16], floats: &mut [f32]) -> Result<Ran, Refusal> {
         ran(ffi::run_floats(self.state.bytes_mut(), self.ram.as_mut(), self.marks.as_mut(), cd, out, floats))
     }
 
-    /// The sixteen bytes of the block at an address of sound RAM, a multiple of 8: the chip's own RAM, not a copy.
+    /// The sixteen bytes of the block at an address of sound RAM, which is a multiple of 8: the chip's own RAM, not a
+    /// copy.
     ///
     /// A view is a borrow, so the chip cannot go on while it is held:
     ///
@@ -212,7 +230,7 @@ impl<M: AsRef<[u8]> + AsMut<[u8]>> Spu<M> {
     /// println!("{view:?}");
     /// ```
     ///
-    /// nor does it outlive the memory:
+    /// and it does not outlive the memory:
     ///
     /// ```compile_fail,E0597
     /// # use tenonwhisk::{Size, Spu};
@@ -227,6 +245,16 @@ impl<M: AsRef<[u8]> + AsMut<[u8]>> Spu<M> {
         Refusal::check(ffi::view_number(self.state.as_bytes(), ram, address), ())?;
         let at = usize::try_from(address).map_err(|_| Refusal::Address)?;
         ram.get(at..).and_then(<[u8]>::first_chunk).ok_or(Refusal::Address)
+    }
+}
+
+impl<M: AsRef<[u8]>> fmt::Debug for Spu<M> {
+    fn fmt(&self, f: &mut fmt::Formatter<'_>) -> fmt::Result {
+        f.debug_struct("Spu")
+            .field("state", &self.state)
+            .field("ram_bytes", &self.ram.as_ref().len())
+            .field("marks_bytes", &self.marks.as_ref().len())
+            .finish_non_exhaustive()
     }
 }
 

@@ -1,4 +1,4 @@
-use std::fmt;
+use core::fmt;
 
 use crate::{ffi, Refusal};
 
@@ -26,16 +26,17 @@ impl Size {
     }
 }
 
-/// The whole chip but sound RAM and marks, as plain bytes: it may be copied, saved, and sent elsewhere.
+/// The whole chip except sound RAM and marks, as plain bytes: copy it, save it, send it elsewhere.
 ///
-/// A `State` is always a good one: made, or checked by [`State::from_bytes`].
+/// A `State` is always a good one: it was made, or [`State::from_bytes`] checked it. The first four bytes name the layout,
+/// so a state with another layout is refused, never misread.
 ///
 /// ```
 /// use tenonwhisk::{Refusal, Size, State};
 ///
 /// let mut state = State::new(Size::K64);
 /// state.write(0x180, 0x3FFF)?;
-/// let saved = state.as_bytes().to_vec();
+/// let saved = *state.as_bytes();
 /// assert_eq!(State::from_bytes(&saved)?, state);
 /// assert_eq!(State::from_bytes(&saved[1..]), Err(Refusal::State));
 /// # Ok::<(), Refusal>(())
@@ -44,17 +45,17 @@ impl Size {
 pub struct State([u8; State::BYTES]);
 
 impl State {
-    /// The length of a state.
+    /// The length of a state in bytes.
     pub const BYTES: usize = 2493;
 
-    /// A fresh state.
+    /// Makes a fresh state.
     pub fn new(size: Size) -> State {
         let mut bytes = [0; State::BYTES];
         ffi::make(size.ram_bytes() as u32, &mut bytes);
         State(bytes)
     }
 
-    /// A state that was saved. Other bytes, and a state with a field outside its range, are refused.
+    /// Takes a saved state. Other bytes, and a state with a field out of range, are refused.
     pub fn from_bytes(bytes: &[u8]) -> Result<State, Refusal> {
         let state = State(bytes.try_into().map_err(|_| Refusal::State)?);
         Refusal::check(ffi::status(&state.0).number, state)
@@ -69,7 +70,7 @@ impl State {
         &mut self.0
     }
 
-    /// The size of sound RAM that it was made for.
+    /// The size of sound RAM that the state was made for.
     pub fn size(&self) -> Size {
         match ffi::status(&self.0).size {
             0x80000 => Size::K512,
@@ -77,17 +78,17 @@ impl State {
         }
     }
 
-    /// Whether what is heard may rest on bytes of sound RAM that nobody loaded. It stays until a reset.
+    /// Whether the sound may rest on bytes of sound RAM that nobody loaded. The doubt stays until a reset.
     pub fn doubt(&self) -> bool {
         ffi::status(&self.0).doubt
     }
 
-    /// Ticks since it was made or reset, modulo 2^32.
+    /// Ticks since the state was made or reset, modulo 2^32.
     pub fn tick_number(&self) -> u32 {
         ffi::status(&self.0).tick
     }
 
-    /// The state as made.
+    /// Resets the state to a fresh one.
     pub fn reset(&mut self) {
         ffi::reset(&mut self.0);
     }

@@ -2,7 +2,7 @@
 
 use std::thread;
 
-use tenonwhisk::{Moved, Ran, Refusal, Size, Spu, State};
+use tenonwhisk::{Moved, Ran, Refusal, Rejected, Size, Spu, State};
 
 const PAIRS: usize = 600;
 
@@ -24,7 +24,7 @@ fn apply_control(spu: &mut Spu, control: u16) {
     spu.tick(0, 0).unwrap();
 }
 
-/// One voice plays `blocks` blocks, then what nobody loaded; the interrupt comes when capture reaches 100h.
+/// One voice plays `blocks` blocks, then memory that nobody loaded. The interrupt comes when capture reaches 100h.
 fn composed(size: Size, blocks: usize) -> Spu {
     let mut spu = Spu::new(size);
     apply_control(&mut spu, 0xC010);
@@ -45,6 +45,11 @@ fn play(spu: &mut Spu) -> (Vec<i16>, Ran) {
     let mut out = vec![0; 2 * PAIRS];
     let ran = spu.run(&cd(), &mut out).unwrap();
     (out, ran)
+}
+
+/// What a transfer did, by count, interrupt and doubt.
+fn told(moved: Result<Moved, Refusal>) -> Result<(usize, bool, bool), Refusal> {
+    moved.map(|moved| (moved.count, moved.irq, moved.doubt))
 }
 
 fn assert_same(a: &Spu, b: &Spu) {
@@ -87,15 +92,15 @@ fn transfers() {
     spu.write(0x1A6, 0x200).unwrap();
     assert_eq!(spu.transfer_in(&[]), Err(Refusal::Count));
     assert_eq!(spu.transfer_in(&values), Err(Refusal::Count));
-    assert_eq!(spu.transfer_in(&values[..32]), Ok(Moved { count: 32, irq: false, doubt: false }));
+    assert_eq!(told(spu.transfer_in(&values[..32])), Ok((32, false, false)));
     assert_eq!(spu.transfer_out(&mut out), Err(Refusal::Mode));
     apply_control(&mut spu, 0xC030);
     spu.write(0x1A6, 0x200).unwrap();
     assert_eq!(spu.transfer_out(&mut out), Err(Refusal::Count));
     assert_eq!(out, [0xA5A5; 33]);
-    assert_eq!(spu.transfer_out(&mut out[..32]), Ok(Moved { count: 32, irq: false, doubt: false }));
+    assert_eq!(told(spu.transfer_out(&mut out[..32])), Ok((32, false, false)));
     assert_eq!(out[..32], values[..32]);
-    assert_eq!(spu.transfer_out(&mut out[..1]), Ok(Moved { count: 1, irq: false, doubt: true }));
+    assert_eq!(told(spu.transfer_out(&mut out[..1])), Ok((1, false, true)));
     assert!(spu.doubt());
 }
 
@@ -119,7 +124,7 @@ fn a_run_is_its_ticks() {
             assert_eq!(ticked.left, f32::from(out[2 * k]) / 32768.0);
             assert_eq!(ticked.right, f32::from(out[2 * k + 1]) / 32768.0);
         }
-        assert_eq!(ran, Ran { count: PAIRS, irq, doubt });
+        assert_eq!((ran.count, ran.irq, ran.doubt), (PAIRS, irq, doubt));
         assert!(irq.is_some() && doubt.is_some() && out.iter().any(|&sample| sample != 0));
         for other in [&single, &floats, &single_floats] {
             assert_same(&run, other);
@@ -137,7 +142,8 @@ fn buffers_of_a_run() {
     assert_eq!(spu.run_floats(&[0; 6], &mut out, &mut floats[..4]), Err(Refusal::Buffers));
     assert_eq!((out, floats), ([77; 6], [7.5; 6]));
     assert_same(&spu, &before);
-    assert_eq!(spu.run(&[], &mut []), Ok(Ran { count: 0, irq: None, doubt: None }));
+    let ran = spu.run(&[], &mut []).unwrap();
+    assert_eq!((ran.count, ran.irq, ran.doubt), (0, None, None));
 }
 
 #[test]
@@ -156,11 +162,39 @@ fn lent_memory_is_as_good_as_owned() {
 fn memory_of_another_size() {
     let (mut ram, mut marks) = (vec![0; 0x10000], vec![0; 0x1000]);
     let large = State::new(Size::K512);
-    assert_eq!(Spu::with_memory(large.clone(), &mut ram[..], &mut marks[..]).unwrap_err(), Refusal::Memory);
+    assert_eq!(Spu::with_memory(large.clone(), &mut ram[..], &mut marks[..]).unwrap_err().refusal, Refusal::Memory);
     let small = State::new(Size::K64);
-    assert_eq!(Spu::with_memory(small.clone(), &mut ram[..], &mut marks[1..]).unwrap_err(), Refusal::Memory);
+    assert_eq!(Spu::with_memory(small.clone(), &mut ram[..], &mut marks[1..]).unwrap_err().refusal, Refusal::Memory);
     let mut spu = Spu::with_memory(small, &mut ram[..], &mut marks[..]).unwrap();
     assert_eq!(spu.set_state(large), Err(Refusal::Memory));
+}
+
+#[test]
+fn rejected_memory_comes_back() {
+    let state = composed(Size::K64, 1).state().clone();
+    let rejected = Spu::with_memory(state.clone(), vec![1; 3], vec![2; 4]).unwrap_err();
+    assert_eq!(rejected.to_string(), Refusal::Memory.to_string());
+    let shown = format!("{rejected:?}");
+    assert!(shown.contains("Memory") && shown.contains("ram_bytes: 3") && shown.len() < 200, "{shown}");
+    let Rejected { refusal, state: given, ram, marks } = rejected;
+    assert_eq!((refusal, given, ram, marks), (Refusal::Memory, state, vec![1; 3], vec![2; 4]));
+}
+
+#[test]
+fn rejected_memory_is_a_refusal() {
+    fn tick(ram: &mut [u8]) -> Result<(), Refusal> {
+        Spu::with_memory(State::new(Size::K64), ram, &mut [0; 4096])?.tick(0, 0)?;
+        Ok(())
+    }
+    assert_eq!(tick(&mut [0; 65536]), Ok(()));
+    assert_eq!(tick(&mut [0; 65535]), Err(Refusal::Memory));
+}
+
+#[test]
+fn a_chip_is_shown_in_short() {
+    let shown = format!("{:?}", composed(Size::K512, 1));
+    assert!(shown.starts_with("Spu { state: State { size: K512, tick_number: 1,"), "{shown}");
+    assert!(shown.contains("ram_bytes: 524288, marks_bytes: 32768") && shown.len() < 200, "{shown}");
 }
 
 #[test]
@@ -223,4 +257,5 @@ fn refusals_have_numbers_and_words() {
     assert_eq!((Refusal::Memory.number(), Refusal::Buffers.number()), (1, 9));
     let error: Box<dyn std::error::Error> = Box::new(Refusal::Count);
     assert_eq!(error.to_string(), "a transfer moves 1 to 32 halfwords");
+    assert_eq!(Refusal::NotCarried.to_string(), "this register, or this value of it, is not carried");
 }

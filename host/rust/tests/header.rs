@@ -1,0 +1,53 @@
+//! What the crate and `tenonwhisk.h` say twice.
+
+use tenonwhisk::{Refusal, State, VERSION};
+
+const HEADER: &str = include_str!("../../tenonwhisk.h");
+
+const REFUSALS: [(&str, Refusal); 9] = [
+    ("MEMORY", Refusal::Memory),
+    ("STATE", Refusal::State),
+    ("OFFSET", Refusal::Offset),
+    ("READ_ONLY", Refusal::ReadOnly),
+    ("NOT_CARRIED", Refusal::NotCarried),
+    ("MODE", Refusal::Mode),
+    ("COUNT", Refusal::Count),
+    ("ADDRESS", Refusal::Address),
+    ("BUFFERS", Refusal::Buffers),
+];
+
+/// What stands in the header between two texts.
+fn between(before: &str, after: &str) -> &'static str {
+    let start = HEADER.find(before).unwrap_or_else(|| panic!("no {before}")) + before.len();
+    HEADER[start..].split(after).next().unwrap().trim()
+}
+
+/// The text of string literals that follow each other.
+fn joined(literals: &str) -> String {
+    literals.split('"').skip(1).step_by(2).collect()
+}
+
+#[test]
+fn numbers() {
+    for (name, refusal) in REFUSALS {
+        let number = between(&format!("    TENONWHISK_{name} = "), " ");
+        assert_eq!(number.trim_end_matches(','), refusal.number().to_string(), "{name}");
+    }
+}
+
+#[test]
+fn words() {
+    for (name, refusal) in REFUSALS {
+        assert_eq!(joined(between(&format!("case TENONWHISK_{name}:\n"), ";\n")), refusal.to_string());
+    }
+}
+
+#[test]
+fn version() {
+    assert_eq!(joined(between("#define TENONWHISK_VERSION ", "\n")), VERSION);
+}
+
+#[test]
+fn length_of_a_state() {
+    assert_eq!(between("#define TENONWHISK_STATE_BYTES ", "\n"), State::BYTES.to_string());
+}
