@@ -38,7 +38,7 @@ static void set(struct core *core, uint32_t offset, uint32_t value)
     uint8_t number = core_write(core, offset, (uint16_t)value);
     if (number == 0)
         return;
-    fprintf(stderr, "register %X: %s\n", (unsigned)offset, refusal_words(number));
+    fprintf(stderr, "register %X: %s\n", (unsigned)offset, tenonwhisk_words(number));
     exit(EXIT_FAILURE);
 }
 
