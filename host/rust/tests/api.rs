@@ -195,6 +195,27 @@ fn a_chip_is_shown_in_short() {
     let shown = format!("{:?}", composed(Size::K512, 1));
     assert!(shown.starts_with("Spu { state: State { size: K512, tick_number: 1,"), "{shown}");
     assert!(shown.contains("ram_bytes: 524288, marks_bytes: 32768") && shown.len() < 200, "{shown}");
+    let unshown = || Unshown(vec![0; 65536]);
+    let rejected = Spu::with_memory(State::new(Size::K64), unshown(), unshown()).unwrap_err();
+    assert!(format!("{rejected:?}").len() < 200);
+    let (state, ram, mut marks) = (rejected.state, rejected.ram, rejected.marks);
+    marks.0.truncate(4096);
+    assert!(format!("{:?}", Spu::with_memory(state, ram, marks).unwrap()).len() < 200);
+}
+
+/// Memory of another kind, without `Debug`.
+struct Unshown(Vec<u8>);
+
+impl AsRef<[u8]> for Unshown {
+    fn as_ref(&self) -> &[u8] {
+        &self.0
+    }
+}
+
+impl AsMut<[u8]> for Unshown {
+    fn as_mut(&mut self) -> &mut [u8] {
+        &mut self.0
+    }
 }
 
 #[test]
