@@ -184,8 +184,17 @@ struct tenonwhisk_ran {
     size_t doubt; /* the tick, from 0, that raised the doubt; count if none did */
 };
 
-/* Makes a tick for each pair of out (left, right, left, ..). cd holds as many pairs of CD samples: cd_len is out_len.
- * Numbers: 0, 1, 2, 9. */
+/* The arguments cd and cd_len of a run without CD. */
+#define TENONWHISK_NO_CD tenonwhisk_no_cd(), 0
+
+static inline const int16_t *tenonwhisk_no_cd(void)
+{
+    static const int16_t none[1] = {0};
+    return none;
+}
+
+/* Makes a tick for each pair of out (left, right, left, ..). cd holds as many pairs of CD samples, or none: cd_len is
+ * out_len, or 0 for no CD. Without CD, every CD sample is zero. Numbers: 0, 1, 2, 9. */
 struct tenonwhisk_ran tenonwhisk_run(uint8_t *state, size_t state_len, uint8_t *ram, size_t ram_len, uint8_t *marks,
                                      size_t marks_len, const int16_t *cd, size_t cd_len, int16_t *out, size_t out_len);
 

@@ -68,11 +68,15 @@ struct tenonwhisk_ticked_floats core_tick_floats(struct core *core, int16_t cd_l
 
 struct tenonwhisk_ran core_run(struct core *core, const int16_t *cd, int16_t *out, size_t pairs)
 {
+    if (!cd)
+        return tenonwhisk_run(STATE, RAM, MARKS, TENONWHISK_NO_CD, out, 2 * pairs);
     return tenonwhisk_run(STATE, RAM, MARKS, cd, 2 * pairs, out, 2 * pairs);
 }
 
 struct tenonwhisk_ran core_run_floats(struct core *core, const int16_t *cd, int16_t *out, float *floats, size_t pairs)
 {
+    if (!cd)
+        return tenonwhisk_run_floats(STATE, RAM, MARKS, TENONWHISK_NO_CD, out, 2 * pairs, floats, 2 * pairs);
     return tenonwhisk_run_floats(STATE, RAM, MARKS, cd, 2 * pairs, out, 2 * pairs, floats, 2 * pairs);
 }
 

@@ -23,6 +23,7 @@ struct tenonwhisk_moved core_transfer_in(struct core *core, const uint16_t *valu
 struct tenonwhisk_moved core_transfer_out(struct core *core, uint16_t *out, size_t count);
 struct tenonwhisk_ticked core_tick(struct core *core, int16_t cd_left, int16_t cd_right);
 struct tenonwhisk_ticked_floats core_tick_floats(struct core *core, int16_t cd_left, int16_t cd_right);
+/* In a run, cd is NULL for no CD. */
 struct tenonwhisk_ran core_run(struct core *core, const int16_t *cd, int16_t *out, size_t pairs);
 struct tenonwhisk_ran core_run_floats(struct core *core, const int16_t *cd, int16_t *out, float *floats, size_t pairs);
 uint8_t core_view_number(const struct core *core, uint32_t address);

@@ -10,7 +10,7 @@ enum { TICKS = 44100, RAM_BYTES = 65536 };
 #define MEMORY STATE, ram, sizeof ram, marks, sizeof marks
 
 static uint8_t state[TENONWHISK_STATE_BYTES], ram[RAM_BYTES], marks[RAM_BYTES / 16];
-static int16_t cd[2 * TICKS], out[2 * TICKS]; /* left, right, left, .. */
+static int16_t out[2 * TICKS]; /* left, right, left, .. */
 
 /* One period of a sine in an ADPCM block that loops on itself: shift 0, filter 0, flags 7, and 28 samples. */
 static const uint16_t block[8] = {0x0700, 0x4320, 0x7765, 0x4567, 0xE023, 0xABCD, 0xA999, 0xEDCB};
@@ -61,7 +61,7 @@ int main(void)
     must("a state", tenonwhisk_make(sizeof ram, STATE));
     load_block();
     key_on();
-    struct tenonwhisk_ran ran = tenonwhisk_run(MEMORY, cd, 2 * TICKS, out, 2 * TICKS);
+    struct tenonwhisk_ran ran = tenonwhisk_run(MEMORY, TENONWHISK_NO_CD, out, 2 * TICKS);
     must("a run", ran.number);
     printf("%zu ticks, peak %d of 32767\n", ran.count, peak());
     printf("in doubt: %s\n", tenonwhisk_status(STATE).doubt ? "yes" : "no");

@@ -290,8 +290,8 @@ static uint8_t number_of_transfer_out(const struct lent *lent)
 
 static uint8_t number_of_run(const struct lent *lent)
 {
-    size_t count = lent->buffers[SAMPLES].count;
-    return count % 2 == 0 && lent->buffers[CD].count == count ? 0 : 9;
+    size_t count = lent->buffers[SAMPLES].count, cd = lent->buffers[CD].count;
+    return count % 2 == 0 && (cd == count || cd == 0) ? 0 : 9;
 }
 
 static uint8_t number_of_run_floats(const struct lent *lent)

@@ -1,4 +1,4 @@
-// The interface in C++: types without the keyword struct, a type and a function of like names, a refusal's words.
+// The interface in C++: types without the keyword struct, a run without CD, a refusal's words.
 #include "tenonwhisk.h"
 
 #include <cstring>
@@ -6,10 +6,10 @@
 int main()
 {
     static uint8_t state[TENONWHISK_STATE_BYTES], ram[65536], marks[sizeof ram / 16];
-    static int16_t cd[20], out[20];
+    static int16_t out[20];
     uint8_t made = tenonwhisk_make(sizeof ram, state, sizeof state);
     tenonwhisk_ran ran =
-        tenonwhisk_run(state, sizeof state, ram, sizeof ram, marks, sizeof marks, cd, sizeof cd / 2, out, 20);
+        tenonwhisk_run(state, sizeof state, ram, sizeof ram, marks, sizeof marks, TENONWHISK_NO_CD, out, 20);
     tenonwhisk_reading reading = tenonwhisk_read(state, sizeof state, 0x200);
     tenonwhisk_overview overview = tenonwhisk_status(state, sizeof state);
     bool good = made == TENONWHISK_DONE && ran.number == TENONWHISK_DONE && overview.tick == ran.count &&

@@ -128,12 +128,16 @@ static void test_run_buffers(void)
     expect(&lent, RUN_FLOATS, 0);
     for (size_t k = 0; k < 3; k++)
         for (size_t count = 0; count < 14; count++) {
-            uint8_t number = count == lent.buffers[CD].count ? 0 : 9;
+            bool no_cd = buffers[k] == CD && count == 0;
+            uint8_t number = no_cd || count == lent.buffers[CD].count ? 0 : 9;
             expect_resized(&lent, RUN, buffers[k], count, buffers[k] == FLOATS ? 0 : number);
             expect_resized(&lent, RUN_FLOATS, buffers[k], count, number);
         }
     for (size_t k = 0; k < 3; k++)
         lent_resize(&lent, buffers[k], 7);
+    expect(&lent, RUN, 9);
+    expect(&lent, RUN_FLOATS, 9);
+    lent_resize(&lent, CD, 0);
     expect(&lent, RUN, 9);
     expect(&lent, RUN_FLOATS, 9);
     lent_free(&lent);
@@ -444,12 +448,34 @@ static void test_run(uint32_t size, uint64_t seed, size_t pairs)
         core_free(&cores[k]);
 }
 
+static void test_no_cd(uint32_t size, uint64_t seed)
+{
+    static const int16_t silence[2 * PAIRS];
+    static struct played silent, none, floats;
+    struct core cores[3];
+    for (int k = 0; k < 3; k++)
+        must_make_composed(&cores[k], size, seed);
+    silent.ran = core_run(&cores[0], silence, silent.out, PAIRS);
+    none.ran = core_run(&cores[1], NULL, none.out, PAIRS);
+    floats.ran = core_run_floats(&cores[2], NULL, floats.out, floats.floats, PAIRS);
+    check(same_ran(none.ran, silent.ran) && same_ran(floats.ran, silent.ran), "no CD reports as a silent one does");
+    check(memcmp(none.out, silent.out, sizeof silent.out) == 0, "run gives the pairs of a silent CD");
+    check(memcmp(floats.out, silent.out, sizeof silent.out) == 0, "run_floats gives the pairs of a silent CD");
+    check(are_floats_of(floats.floats, silent.out, 2 * PAIRS), "run_floats gives the floats of a silent CD");
+    check(same_cores(&cores[0], &cores[1]) && same_cores(&cores[0], &cores[2]),
+          "no CD leaves what a silent one leaves");
+    for (int k = 0; k < 3; k++)
+        core_free(&cores[k]);
+}
+
 static void test_runs(void)
 {
     const size_t lengths[] = {0, 1, 2, 3, 29, PAIRS};
     for (size_t k = 0; k < sizeof lengths / sizeof *lengths; k++)
         for (uint64_t seed = 1; seed <= 4; seed++)
             test_run(seed <= 2 ? SMALL : LARGE, seed, lengths[k]);
+    for (uint64_t seed = 1; seed <= 4; seed++)
+        test_no_cd(seed <= 2 ? SMALL : LARGE, seed);
 }
 
 /* ---- cores and states apart from each other */

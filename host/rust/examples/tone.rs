@@ -35,7 +35,7 @@ fn play() -> Result<(), Refusal> {
     load_block(&mut spu)?;
     key_on(&mut spu)?;
     let mut out = vec![0; 2 * TICKS]; // left, right, left, ..
-    let ran = spu.run(&vec![0; 2 * TICKS], &mut out)?;
+    let ran = spu.run(&[], &mut out)?; // no CD
     println!("{} ticks, peak {} of 32767", ran.count, peak(&out));
     println!("in doubt: {}", if spu.doubt() { "yes" } else { "no" });
     if let Err(refusal) = spu.write(0x1AE, 0) {

@@ -68,9 +68,8 @@ pub struct Ran {
 /// assert_eq!(spu.transfer_in(&[0x0700, 0x7777])?.count, 2);
 /// assert_eq!(spu.block_view(0x1000)?[..4], [0x00, 0x07, 0x77, 0x77]);
 ///
-/// let cd = [0; 2 * 441];
 /// let mut out = [0; 2 * 441];
-/// assert_eq!(spu.run(&cd, &mut out)?.count, 441); // a hundredth of a second
+/// assert_eq!(spu.run(&[], &mut out)?.count, 441); // a hundredth of a second, without CD
 /// assert_eq!(spu.tick_number(), 442);
 /// # Ok::<(), Refusal>(())
 /// ```
@@ -207,7 +206,8 @@ impl<M: AsRef<[u8]> + AsMut<[u8]>> Spu<M> {
         ticked(ffi::tick_floats(state, self.ram.as_mut(), self.marks.as_mut(), cd_left, cd_right))
     }
 
-    /// Makes a tick for each pair of `out` (left, right, left, ..). `cd` holds as many pairs of CD samples.
+    /// Makes a tick for each pair of `out` (left, right, left, ..). `cd` holds as many pairs of CD samples, or is empty
+    /// for no CD: then every CD sample is zero.
     pub fn run(&mut self, cd: &[i16], out: &mut [i16]) -> Result<Ran, Refusal> {
         ran(ffi::run(self.state.bytes_mut(), self.ram.as_mut(), self.marks.as_mut(), cd, out))
     }

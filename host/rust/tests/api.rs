@@ -147,6 +147,23 @@ fn buffers_of_a_run() {
 }
 
 #[test]
+fn no_cd_is_a_silent_one() {
+    let (mut silent, mut none, mut floats) = (composed(Size::K64, 4), composed(Size::K64, 4), composed(Size::K64, 4));
+    let (mut heard, mut out, mut as_floats) = (vec![0; 2 * PAIRS], vec![0; 2 * PAIRS], vec![0.0; 2 * PAIRS]);
+    let ran = silent.run(&vec![0; 2 * PAIRS], &mut heard);
+    assert!(ran.is_ok() && heard.iter().any(|&sample| sample != 0));
+    assert_eq!(none.run(&[], &mut out), ran);
+    assert_eq!(out, heard);
+    out.fill(0);
+    assert_eq!(floats.run_floats(&[], &mut out, &mut as_floats), ran);
+    assert_eq!(out, heard);
+    assert!(as_floats.iter().zip(&heard).all(|(&float, &sample)| float == f32::from(sample) / 32768.0));
+    assert_same(&silent, &none);
+    assert_same(&silent, &floats);
+    assert_eq!(none.run(&[], &mut out[1..]), Err(Refusal::Buffers));
+}
+
+#[test]
 fn lent_memory_is_as_good_as_owned() {
     let mut owned = composed(Size::K64, 4);
     let (state, mut ram, mut marks) = owned.clone().into_parts();

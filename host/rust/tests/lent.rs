@@ -10,7 +10,7 @@ fn a_chip_over_lent_memory() -> Result<(), Refusal> {
     spu.tick(0, 0)?;
     assert_eq!(spu.transfer_in(&[0x0700, 0x7777])?.count, 2);
     let mut out = [0; 20];
-    assert_eq!(spu.run(&[0; 20], &mut out)?.count, 10);
+    assert_eq!(spu.run(&[], &mut out)?.count, 10);
     assert_eq!(spu.tick_number(), 11);
     assert_eq!(spu.write(0x1AE, 0), Err(Refusal::ReadOnly));
     Ok(())

@@ -14,7 +14,7 @@ fn ticks() -> Result<usize, Refusal> {
     let (mut ram, mut marks) = ([0; Size::K64.ram_bytes()], [0; Size::K64.marks_bytes()]);
     let mut spu = Spu::with_memory(State::new(Size::K64), &mut ram[..], &mut marks[..])?;
     let mut out = [0; 20];
-    Ok(spu.run(&[0; 20], &mut out)?.count)
+    Ok(spu.run(&[], &mut out)?.count)
 }
 
 #[no_mangle]
