@@ -6,7 +6,7 @@ use mir.Syntax.{w16, w32}
 use mir.Val.{SFits, toZ, ofZ}
 use mir.Facts.{toZ-ofZ}
 use Rattle.fixed.specs.Range.{In}
-use Rattle.fixed.proofs.Parts.{fits-abs}
+use Rattle.fixed.proofs.Parts.{of-fits}
 use Rattle.fixed.proofs.Number.{Num, res-in, need, is, hold, add, sharp}
 use Rattle.gauss.specs.Gauss.{tapOf, interpolatedOf}
 use Rattle.gauss.proofs.Rule.{fits16}
@@ -29,15 +29,14 @@ three c = add (hold w32 (two (c .before)) tt) (at (0x100 + c .before .before .be
 abbrev four : tie.After-tap4 → Num
 four c = add (hold w32 (three (c .before)) tt) (at (c .before .before .before .before .args .i) (c .before .before .before .before .fits .new) (c .tap4 .ensures))
 
-inside : (c : tie.After-tap4) → In 0x7FFF 0x7FFF (four c .val)
+inside : (c : tie.After-tap4) → SFits w16 (four c .val)
 unfolding interpolatedOf
 inside c =
-    let a = c .before .before .before .before .args in
-    let f = c .before .before .before .before .fits in
-    fits16 (a .i) (a .oldest) (a .older) (a .old) (a .new) (f .i .fits) (fits-abs w16 (a .oldest) (f .oldest)) (fits-abs w16 (a .older) (f .older)) (fits-abs w16 (a .old) (f .old)) (fits-abs w16 (a .new) (f .new))
+    let s = c .before .before .before .before in
+    fits16 (s .args .i) (s .fits .i .fits) (s .fits .oldest) (s .fits .older) (s .fits .old) (s .fits .new)
 
 abbrev out : tie.After-tap4 → Num
-out c = sharp (hold w32 (four c) tt) (inside c)
+out c = sharp (hold w32 (four c) tt) (of-fits w16 (four c .val) (inside c))
 
 sub-tap : tie.Need-sub-tap
 sub-tap c = search needs
