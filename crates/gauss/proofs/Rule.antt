@@ -15,7 +15,7 @@ use mir.Val.{SFits}
 use Rattle.fixed.specs.Range.{up, dn, In}
 use Rattle.fixed.proofs.Parts.{add-is, of-fits}
 use Rattle.fixed.proofs.Number.{both, both-l, both-r, add-in, fit, product-in}
-use Rattle.fixed.proofs.Table.{below, below-at, inZ, inZ→in}
+use Rattle.fixed.proofs.Table.{below-at, inZ, inZ→in}
 use Rattle.gauss.specs.Gauss.{table, factorAt, tapOf, interpolatedOf}
 
 -- ---- the table
