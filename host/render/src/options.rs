@@ -1,0 +1,189 @@
+//! The command line.
+
+use std::ffi::{OsStr, OsString};
+use std::os::unix::ffi::OsStrExt;
+use std::path::PathBuf;
+
+use tenonwhisk::Size;
+
+pub const HELP: &str = "\
+usage: render [OPTIONS] SCRIPT OUT
+
+Renders a script to a WAV file: 16 bits, stereo, 44,100 Hz.
+
+SCRIPT is a file, or - for standard input. OUT is a file, or - for standard output; it may also be a
+device or a FIFO.
+
+Options, before or after the names:
+  --ram 512       KiB of sound RAM: 512 as in the console (the default), or 64
+  --cd FILE.wav   play this file as the CD input from tick 0 on, and silence after its end
+                  (16 bits, stereo, 44,100 Hz, PCM)
+  -h, --help      print this text
+  --version       print the version
+  --              what follows are names, even if they begin with -
+
+Lines of a script:
+  w OFFSET VALUE  write a register, by its offset from 1F801C00h (hex, 1 to 4 digits)
+  s V ..          move halfwords to sound RAM at the transfer address (hex, 1 to 4 digits)
+  t N             sound for N ticks of 1/44100 s (decimal, up to 65535)
+  l ADDRESS FILE  load a file's bytes to sound RAM at an address (hex, 1 to 5 digits, a multiple of 8)
+  # ..            a comment; blank lines are passed over too
+
+Spaces, tabs and CR part the fields. FILE is the rest of the line, so its name may hold spaces. A relative
+FILE is looked for beside the script; if the script is standard input or a pipe, in the current folder. A
+load takes no time and leaves all registers as they are, whatever SPUCNT says.
+
+A line that is bad or refused is reported by its number and left out; the others are rendered. The first
+tick from which the sound may rest on memory that nobody loaded is reported too.
+
+OUT is replaced only when the sound is whole. A run that fails or is interrupted leaves it as it was before.
+A file that is there and is no WAV file is never replaced, nor is the script, the CD file or a loaded file.
+Standard output, a device or a FIFO is written as the sound is rendered, with a header for unknown length.
+A CD file that is shorter than its header says is played as far as it goes, and that is reported.
+
+Exit status, the sum of what applies:
+  1  the sound may rest on memory that nobody loaded
+  2  lines were bad or refused; the others are rendered
+  4  failed: wrong usage, or a file that cannot be read or written; OUT is not replaced
+";
+
+pub const VERSION: &str = concat!("render ", env!("CARGO_PKG_VERSION"), "\n");
+pub const USAGE: &str = "usage: render [OPTIONS] SCRIPT OUT (render --help says more)";
+
+/// What the command line asks for.
+#[derive(Debug, PartialEq, Eq)]
+pub enum Request {
+    Help,
+    Version,
+    Render(Options),
+}
+
+#[derive(Debug, PartialEq, Eq)]
+pub struct Options {
+    pub size: Size,
+    pub cd: Option<PathBuf>,
+    pub script: OsString,
+    pub out: OsString,
+}
+
+/// What is wrong with a command line is told in plain words.
+pub fn parse(arguments: impl IntoIterator<Item = OsString>) -> Result<Request, String> {
+    let mut arguments = arguments.into_iter();
+    let mut size = Size::K512;
+    let mut cd = None;
+    let mut names = Vec::new();
+    while let Some(argument) = arguments.next() {
+        let (option, value) = split(&argument);
+        match option {
+            b"--" if value.is_none() => names.extend(arguments.by_ref()),
+            b"-h" | b"--help" if value.is_none() => return Ok(Request::Help),
+            b"--version" if value.is_none() => return Ok(Request::Version),
+            b"--ram" => size = ram(value.or_else(|| arguments.next()))?,
+            b"--cd" => cd = Some(file(value.or_else(|| arguments.next()))?),
+            b"--help" | b"--version" => return Err(format!("{} takes no value", shown(OsStr::from_bytes(option)))),
+            [b'-', _, ..] => return Err(format!("unknown option {}", shown(&argument))),
+            _ => names.push(argument),
+        }
+    }
+    let (script, out) = two(names)?;
+    Ok(Request::Render(Options { size, cd, script, out }))
+}
+
+/// `--option=value` in its parts; of any other argument the whole.
+fn split(argument: &OsStr) -> (&[u8], Option<OsString>) {
+    let bytes = argument.as_bytes();
+    match bytes.iter().position(|&byte| byte == b'=') {
+        Some(at) if bytes.starts_with(b"--") => (&bytes[..at], Some(OsStr::from_bytes(&bytes[at + 1..]).to_owned())),
+        _ => (bytes, None),
+    }
+}
+
+fn ram(value: Option<OsString>) -> Result<Size, String> {
+    let value = value.ok_or("--ram needs a value, 512 or 64")?;
+    match value.as_bytes() {
+        b"512" => Ok(Size::K512),
+        b"64" => Ok(Size::K64),
+        _ => Err(format!("--ram takes 512 or 64, not {}", shown(&value))),
+    }
+}
+
+fn file(value: Option<OsString>) -> Result<PathBuf, String> {
+    match value {
+        Some(name) if !name.is_empty() => Ok(PathBuf::from(name)),
+        _ => Err("--cd needs the name of a WAV file".to_owned()),
+    }
+}
+
+fn two(names: Vec<OsString>) -> Result<(OsString, OsString), String> {
+    let mut names = names.into_iter();
+    let script = names.next().ok_or("SCRIPT and OUT are missing")?;
+    let out = names.next().ok_or("OUT is missing")?;
+    match names.next() {
+        Some(third) => Err(format!("{} is one name too many", shown(&third))),
+        None if script.is_empty() => Err("the name of SCRIPT is empty".to_owned()),
+        None if out.is_empty() => Err("the name of OUT is empty".to_owned()),
+        None => Ok((script, out)),
+    }
+}
+
+fn shown(argument: &OsStr) -> String {
+    crate::words::name(argument.as_ref())
+}
+
+#[cfg(test)]
+mod tests {
+    use super::*;
+
+    fn parsed(line: &str) -> Result<Request, String> {
+        parse(line.split_whitespace().map(OsString::from))
+    }
+
+    fn options(size: Size, cd: Option<&str>, script: &str, out: &str) -> Result<Request, String> {
+        Ok(Request::Render(Options { size, cd: cd.map(PathBuf::from), script: script.into(), out: out.into() }))
+    }
+
+    #[test]
+    fn options_stand_before_or_after_the_names() {
+        assert_eq!(parsed("a b"), options(Size::K512, None, "a", "b"));
+        assert_eq!(parsed("--ram 64 --cd c a b"), options(Size::K64, Some("c"), "a", "b"));
+        assert_eq!(parsed("a --ram=64 b --cd=c=d"), options(Size::K64, Some("c=d"), "a", "b"));
+        assert_eq!(parsed("- -"), options(Size::K512, None, "-", "-"));
+        assert_eq!(parsed("--ram 64 a b --ram 512"), options(Size::K512, None, "a", "b"));
+    }
+
+    #[test]
+    fn two_hyphens_end_options() {
+        assert_eq!(parsed("--ram 64 -- --ram --cd"), options(Size::K64, None, "--ram", "--cd"));
+        assert_eq!(parsed("a -- --"), options(Size::K512, None, "a", "--"));
+    }
+
+    #[test]
+    fn help_and_version_need_no_names() {
+        for help in ["-h", "--help", "a --help", "a b c -h"] {
+            assert_eq!(parsed(help), Ok(Request::Help));
+        }
+        assert_eq!(parsed("--version"), Ok(Request::Version));
+    }
+
+    #[test]
+    fn a_wrong_command_line_is_told() {
+        for (line, words) in [
+            ("", "SCRIPT and OUT are missing"),
+            ("a", "OUT is missing"),
+            ("a b c", "c is one name too many"),
+            ("--bogus a b", "unknown option --bogus"),
+            ("a b -x", "unknown option -x"),
+            ("a b --out=c", "unknown option --out=c"),
+            ("--=c a b", "unknown option --=c"),
+            ("a b --ram", "--ram needs a value, 512 or 64"),
+            ("a b --ram 128", "--ram takes 512 or 64, not 128"),
+            ("a b --ram=", "--ram takes 512 or 64, not "),
+            ("a b --cd", "--cd needs the name of a WAV file"),
+            ("a b --cd=", "--cd needs the name of a WAV file"),
+            ("--help=all", "--help takes no value"),
+        ] {
+            assert_eq!(parsed(line), Err(words.to_owned()), "{line}");
+        }
+        assert_eq!(parse(["a", ""].map(OsString::from)), Err("the name of OUT is empty".to_owned()));
+    }
+}

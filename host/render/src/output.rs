@@ -1,0 +1,173 @@
+//! The sound as it is written: to a temporary file that takes the target's place, or to a stream.
+
+use std::fs::File;
+use std::io::{self, BufWriter, Seek, Write};
+use std::path::{Path, PathBuf};
+
+use crate::failure::Failure;
+use crate::files::Identity;
+use crate::system::{self, Ending};
+use crate::target::{Kind, Target};
+use crate::temporary::Temporary;
+use crate::wav::{self, Length, MOST_PAIRS};
+
+const BUFFER_BYTES: usize = 1 << 16;
+
+pub struct Output {
+    name: String,
+    identity: Option<Identity>,
+    sound: Sound<File>,
+    /// The temporary file, and whose place it is to take; of a stream there is none.
+    replacing: Option<(Temporary, PathBuf)>,
+}
+
+impl Output {
+    pub fn open(target: Target) -> Result<Output, Failure> {
+        let Target { name, identity, kind } = target;
+        let opened = match kind {
+            Kind::File { path, old } => Temporary::create(&path, old.as_ref())
+                .and_then(|(temporary, file)| Ok((Sound::of_file(file)?, Some((temporary, path))))),
+            Kind::Stream(path) => open_stream(&path).and_then(|file| Ok((Sound::of_stream(file)?, None))),
+            Kind::StandardOutput(file) => Sound::of_stream(file).map(|sound| (sound, None)),
+        };
+        let (sound, replacing) = opened.map_err(|error| Failure::writing(&name, &error))?;
+        if replacing.is_none() {
+            system::set_ending(Ending::StreamBegun);
+        }
+        Ok(Output { name, identity, sound, replacing })
+    }
+
+    pub fn is_stream(&self) -> bool {
+        self.replacing.is_none()
+    }
+
+    /// Whether this is the file that is written, or the one that is to be replaced.
+    pub fn is(&self, identity: Option<Identity>) -> bool {
+        let temporary = self.replacing.as_ref().and_then(|(temporary, _)| temporary.identity);
+        identity.is_some() && (identity == self.identity || identity == temporary)
+    }
+
+    /// Pairs so far.
+    pub fn pairs(&self) -> u64 {
+        self.sound.pairs
+    }
+
+    /// Writes pairs: left, right, left, ..
+    pub fn write(&mut self, samples: &[i16]) -> Result<(), Failure> {
+        self.sound.write(samples).map_err(|error| Failure::writing(&self.name, &error))
+    }
+
+    pub fn flush(&mut self) -> Result<(), Failure> {
+        self.sound.to.flush().map_err(|error| Failure::writing(&self.name, &error))
+    }
+
+    /// Completes the output; only now is a file replaced.
+    pub fn finish(self) -> Result<(), Failure> {
+        let Output { name, sound, replacing, .. } = self;
+        let finished = match replacing {
+            Some((temporary, path)) => sound.finish_file().and_then(|()| temporary.take_place(&path)),
+            None => sound.finish_stream().map(|()| system::set_ending(Ending::Whole)),
+        };
+        finished.map_err(|error| Failure::writing(name, &error))
+    }
+}
+
+/// What stands in a file before the sound stays: a descriptor may stand for a file that others write too.
+fn open_stream(path: &Path) -> io::Result<File> {
+    File::options().append(true).open(path)
+}
+
+/// A WAV file as a stream of pairs.
+struct Sound<W: Write> {
+    to: BufWriter<W>,
+    pairs: u64,
+    most_pairs: u64,
+    bytes: Vec<u8>,
+}
+
+impl<W: Write> Sound<W> {
+    fn of_file(to: W) -> io::Result<Sound<W>> {
+        Sound::begin(to, Length::Pairs(0), MOST_PAIRS)
+    }
+
+    fn of_stream(to: W) -> io::Result<Sound<W>> {
+        Sound::begin(to, Length::Unknown, u64::MAX)
+    }
+
+    fn begin(to: W, length: Length, most_pairs: u64) -> io::Result<Sound<W>> {
+        let mut to = BufWriter::with_capacity(BUFFER_BYTES, to);
+        to.write_all(&wav::header(length))?;
+        Ok(Sound { to, pairs: 0, most_pairs, bytes: Vec::new() })
+    }
+
+    fn write(&mut self, samples: &[i16]) -> io::Result<()> {
+        let pairs = samples.len() as u64 / 2;
+        if pairs > self.most_pairs - self.pairs {
+            return Err(io::Error::other("a WAV file holds no more than 6 hours and 45 minutes"));
+        }
+        self.bytes.clear();
+        self.bytes.extend(samples.iter().flat_map(|sample| sample.to_le_bytes()));
+        self.to.write_all(&self.bytes)?;
+        self.pairs += pairs;
+        Ok(())
+    }
+}
+
+impl Sound<File> {
+    /// Completes the header, and waits until the disk has all.
+    fn finish_file(mut self) -> io::Result<()> {
+        self.to.rewind()?;
+        self.to.write_all(&wav::header(Length::Pairs(self.pairs)))?;
+        self.to.flush()?;
+        sync(self.to.get_ref())
+    }
+
+    fn finish_stream(mut self) -> io::Result<()> {
+        self.to.flush()?;
+        match self.to.get_ref() {
+            file if file.metadata()?.is_file() => sync(file),
+            _ => Ok(()),
+        }
+    }
+}
+
+/// A disk that is full may say so only now. Some file systems cannot tell.
+fn sync(file: &File) -> io::Result<()> {
+    match file.sync_all() {
+        Err(error) if matches!(error.kind(), io::ErrorKind::InvalidInput | io::ErrorKind::Unsupported) => Ok(()),
+        synced => synced,
+    }
+}
+
+#[cfg(test)]
+mod tests {
+    use super::*;
+
+    #[test]
+    fn samples_are_written_low_byte_first() {
+        let mut sound = Sound::of_stream(Vec::new()).unwrap();
+        sound.write(&[1, -2]).unwrap();
+        sound.write(&[0x1234, i16::MIN]).unwrap();
+        assert_eq!(sound.pairs, 2);
+        let bytes = sound.to.into_inner().unwrap();
+        assert_eq!(bytes[44..], [1, 0, 0xFE, 0xFF, 0x34, 0x12, 0x00, 0x80]);
+    }
+
+    #[test]
+    fn a_file_holds_no_more_than_its_header_counts() {
+        let mut sound = Sound::of_file(io::sink()).unwrap();
+        sound.pairs = MOST_PAIRS - 2;
+        sound.write(&[0; 2]).unwrap();
+        assert!(sound.write(&[0; 4]).unwrap_err().to_string().contains("6 hours and 45 minutes"));
+        sound.write(&[0; 2]).unwrap();
+        assert_eq!(sound.pairs, MOST_PAIRS);
+    }
+
+    #[test]
+    fn a_stream_goes_on() {
+        let mut sound = Sound::of_stream(io::sink()).unwrap();
+        sound.pairs = MOST_PAIRS;
+        sound.write(&[0; 4]).unwrap();
+        assert_eq!(sound.pairs, MOST_PAIRS + 2);
+    }
+}

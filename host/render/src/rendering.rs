@@ -1,0 +1,192 @@
+//! A run from the script's first line to its last.
+
+use std::fs::File;
+use std::path::{Path, PathBuf};
+
+use tenonwhisk::{Refusal, Spu};
+
+use crate::cd::Cd;
+use crate::console::Console;
+use crate::failure::Failure;
+use crate::files::{self, Identity};
+use crate::findings::Findings;
+use crate::load::{self, Loader};
+use crate::options::Options;
+use crate::output::Output;
+use crate::script::{Command, Script};
+use crate::source::Source;
+use crate::target::Target;
+use crate::words;
+
+/// Pairs that are rendered at once.
+const MOST_PAIRS: usize = 4096;
+
+pub struct Rendering<'a> {
+    console: &'a mut Console,
+    findings: &'a mut Findings,
+    spu: Spu,
+    loader: Loader,
+    cd: Option<Cd>,
+    script: Script<File>,
+    script_name: String,
+    /// Where files that the script names are looked for.
+    folder: PathBuf,
+    output: Output,
+    cd_samples: Vec<i16>,
+    samples: Vec<i16>,
+}
+
+impl<'a> Rendering<'a> {
+    /// Looks at all files before it opens the output, which comes last.
+    pub fn prepare(
+        options: &Options,
+        console: &'a mut Console,
+        findings: &'a mut Findings,
+    ) -> Result<Rendering<'a>, Failure> {
+        let source = Source::find(&options.script)?;
+        let target = Target::find(&options.out)?;
+        refuse_same(&source.name, source.identity, &target)?;
+        refuse_same(files::STANDARD_ERROR, standard_error(), &target)?;
+        if let Some(cd) = &options.cd {
+            refuse_same(&words::name(cd), Cd::identity(cd)?, &target)?;
+        }
+        let loader = Loader::new(options.size).map_err(|refusal| Failure::new(refusal.to_string()))?;
+        let cd = options.cd.as_deref().map(Cd::open).transpose()?;
+        let (script_name, folder) = (source.name.clone(), source.folder.clone());
+        Ok(Rendering {
+            console,
+            findings,
+            spu: Spu::new(options.size),
+            loader,
+            cd,
+            script: Script::new(source.open()?),
+            script_name,
+            folder,
+            output: Output::open(target)?,
+            cd_samples: vec![0; 2 * MOST_PAIRS],
+            samples: vec![0; 2 * MOST_PAIRS],
+        })
+    }
+
+    pub fn writes_stream(&self) -> bool {
+        self.output.is_stream()
+    }
+
+    /// Renders the whole script, and gives how many pairs that made.
+    pub fn run(mut self) -> Result<u64, Failure> {
+        while let Some(command) = self.next_command()? {
+            self.obey(command)?;
+        }
+        let pairs = self.output.pairs();
+        self.output.finish()?;
+        Ok(pairs)
+    }
+
+    /// Whoever listens to a stream hears all there is while the script is waited for.
+    fn next_command(&mut self) -> Result<Option<Command>, Failure> {
+        if self.script.must_read() {
+            self.output.flush()?;
+        }
+        self.script.next_command().map_err(|error| Failure::reading(&self.script_name, &error))
+    }
+
+    fn obey(&mut self, command: Command) -> Result<(), Failure> {
+        match command {
+            Command::Write { offset, value } => {
+                let written = self.spu.write(offset, value);
+                self.report_refusal(written);
+            }
+            Command::TransferIn(values) => {
+                let moved = self.spu.transfer_in(&values);
+                self.report_refusal(moved);
+            }
+            Command::Ticks(count) => self.sound(count.into())?,
+            Command::Load { address, file } => self.load(address, &file)?,
+            Command::Bad(expected) => self.report(&format!("bad line ({expected})")),
+        }
+        Ok(())
+    }
+
+    fn sound(&mut self, mut pairs_left: usize) -> Result<(), Failure> {
+        while pairs_left > 0 {
+            let pairs = pairs_left.min(MOST_PAIRS);
+            self.play_cd(pairs)?;
+            let samples = &mut self.samples[..2 * pairs];
+            let ran = self.spu.run(&self.cd_samples[..2 * pairs], samples);
+            if let Ok(ran) = ran {
+                self.report_doubt(ran.doubt);
+                self.output.write(&self.samples[..2 * pairs])?;
+                self.console.progress(self.output.pairs());
+            }
+            self.report_refusal(ran);
+            pairs_left -= pairs;
+        }
+        Ok(())
+    }
+
+    fn play_cd(&mut self, pairs: usize) -> Result<(), Failure> {
+        if let Some(cd) = &mut self.cd {
+            if let Some(note) = cd.play(&mut self.cd_samples[..2 * pairs])? {
+                self.console.line(&note);
+            }
+        }
+        Ok(())
+    }
+
+    /// A line that loads the output file ends the run: that file would be replaced by the sound.
+    fn load(&mut self, address: u32, file: &Path) -> Result<(), Failure> {
+        let path = self.folder.join(file);
+        let name = words::name(&path);
+        let identity = load::identity(&path);
+        if identity.as_ref().is_ok_and(|&identity| self.output.is(identity)) {
+            self.findings.lines += 1;
+            let number = self.script.line_number();
+            return Err(Failure::new(format!("line {number}: cannot load {name}: it is the output file")));
+        }
+        let bytes = identity.and_then(|_| self.loader.room(address)).and_then(|room| load::read(&path, room));
+        match bytes {
+            Ok(bytes) => {
+                let loaded = self.loader.load(&mut self.spu, address, &bytes);
+                self.report_refusal(loaded);
+            }
+            Err(why) => self.report(&format!("cannot load {name}: {why}")),
+        }
+        Ok(())
+    }
+
+    fn report(&mut self, words: &str) {
+        self.console.line(&format!("line {}: {words}", self.script.line_number()));
+        self.findings.lines += 1;
+    }
+
+    fn report_refusal<T>(&mut self, result: Result<T, Refusal>) {
+        if let Err(refusal) = result {
+            self.report(&format!("refused ({}): {refusal}", refusal.number()));
+        }
+    }
+
+    /// The doubt came in a tick of the run that is about to be written.
+    fn report_doubt(&mut self, within_run: Option<usize>) {
+        let Some(within_run) = within_run else { return };
+        let tick = self.output.pairs() + within_run as u64;
+        self.findings.doubt = self.findings.doubt.or(Some(tick));
+        self.console.line(&format!(
+            "line {}: from tick {tick} ({}) on the sound may rest on memory that nobody loaded",
+            self.script.line_number(),
+            words::seconds(tick)
+        ));
+    }
+}
+
+fn refuse_same(name: &str, identity: Option<Identity>, target: &Target) -> Result<(), Failure> {
+    if identity.is_none() || identity != target.identity {
+        return Ok(());
+    }
+    Err(Failure::new(format!("{name} and the output {} are the same file; nothing was written", target.name)))
+}
+
+/// Messages there would land in the sound.
+fn standard_error() -> Option<Identity> {
+    let file = files::standard(std::io::stderr()).ok()?;
+    Identity::of(&file.metadata().ok()?)
+}

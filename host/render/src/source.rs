@@ -1,0 +1,73 @@
+//! Where the script is read from.
+
+use std::ffi::OsStr;
+use std::fs::{self, File};
+use std::io;
+use std::path::{Path, PathBuf};
+
+use crate::failure::Failure;
+use crate::files::{self, Identity};
+use crate::{system, words};
+
+pub struct Source {
+    /// As messages name it.
+    pub name: String,
+    pub identity: Option<Identity>,
+    /// Where the files that the script names are looked for.
+    pub folder: PathBuf,
+    place: Place,
+}
+
+enum Place {
+    Open(File),
+    Named(PathBuf),
+}
+
+impl Source {
+    /// Looks at the script without opening it: a FIFO waits for its writer only when it is opened.
+    pub fn find(name: &OsStr) -> Result<Source, Failure> {
+        if name == "-" {
+            return Source::standard_input().map_err(|error| Failure::reading(files::STANDARD_INPUT, &error));
+        }
+        Source::named(Path::new(name)).map_err(|error| Failure::reading(words::name(name.as_ref()), &error))
+    }
+
+    fn standard_input() -> io::Result<Source> {
+        if system::was_closed(0) {
+            return Err(io::Error::other("it is closed"));
+        }
+        let file = files::standard(io::stdin())?;
+        let metadata = file.metadata()?;
+        if metadata.is_dir() {
+            return Err(files::is_a_directory());
+        }
+        Ok(Source {
+            name: files::STANDARD_INPUT.to_owned(),
+            identity: Identity::of(&metadata),
+            folder: PathBuf::new(),
+            place: Place::Open(file),
+        })
+    }
+
+    fn named(path: &Path) -> io::Result<Source> {
+        let metadata = fs::metadata(path)?;
+        if metadata.is_dir() {
+            return Err(files::is_a_directory());
+        }
+        let stands_in_folder = metadata.is_file() && !files::is_descriptor(path);
+        let folder = path.parent().filter(|_| stands_in_folder).unwrap_or(Path::new(""));
+        Ok(Source {
+            name: words::name(path),
+            identity: Identity::of(&metadata),
+            folder: folder.to_owned(),
+            place: Place::Named(path.to_owned()),
+        })
+    }
+
+    pub fn open(self) -> Result<File, Failure> {
+        match self.place {
+            Place::Open(file) => Ok(file),
+            Place::Named(path) => File::open(path).map_err(|error| Failure::reading(self.name, &error)),
+        }
+    }
+}
