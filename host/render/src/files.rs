@@ -4,7 +4,7 @@ use std::fs::{self, File, Metadata};
 use std::io;
 use std::os::fd::AsFd;
 use std::os::unix::fs::{FileTypeExt, MetadataExt};
-use std::path::Path;
+use std::path::{Path, PathBuf};
 
 pub const STANDARD_INPUT: &str = "standard input";
 pub const STANDARD_OUTPUT: &str = "standard output";
@@ -30,11 +30,29 @@ pub fn standard(stream: impl AsFd) -> io::Result<File> {
     Ok(File::from(stream.as_fd().try_clone_to_owned()?))
 }
 
-/// Whether the path is the name of an open descriptor, such as /dev/stdout, /dev/fd/1 or /proc/self/fd/1.
-pub fn is_descriptor(path: &Path) -> bool {
-    let folder = path.parent().and_then(|folder| fs::canonicalize(folder).ok());
-    folder.is_some_and(|folder| folder.starts_with("/proc") && folder.ends_with("fd"))
-        || fs::read_link(path).is_ok_and(|link| link.starts_with("/proc/self/fd"))
+/// Links that lead to links are followed so often.
+const MOST_LINKS: usize = 40;
+
+/// The path that symbolic links lead to, whether or not a file is there. The name of an open descriptor is not followed.
+pub fn behind_links(path: &Path) -> io::Result<PathBuf> {
+    let mut path = path.to_owned();
+    for _ in 0..=MOST_LINKS {
+        let is_link = fs::symlink_metadata(&path).is_ok_and(|metadata| metadata.is_symlink());
+        if !is_link || descriptor(&path).is_some() {
+            return Ok(path);
+        }
+        let link = fs::read_link(&path)?;
+        path = path.parent().unwrap_or(Path::new("")).join(link);
+    }
+    Err(io::Error::other("too many symbolic links lead to each other"))
+}
+
+/// The number of the open descriptor that the path, behind all links, is the name of: 1 for /proc/self/fd/1, to which
+/// /dev/stdout leads.
+pub fn descriptor(path: &Path) -> Option<u32> {
+    let folder = fs::canonicalize(path.parent()?).ok()?;
+    let is_own = fs::canonicalize("/proc/self/fd").is_ok_and(|own| own == folder);
+    path.file_name().filter(|_| is_own)?.to_str()?.parse().ok()
 }
 
 /// The error of whoever takes a folder for a file.
@@ -49,13 +67,14 @@ mod tests {
 
     #[test]
     fn names_of_descriptors() {
+        let descriptor = |name| descriptor(&behind_links(Path::new(name)).unwrap());
         if cfg!(target_os = "linux") {
-            for name in ["/dev/stdin", "/dev/fd/0", "/proc/self/fd/0"] {
-                assert!(is_descriptor(Path::new(name)), "{name}");
+            for (name, number) in [("/dev/stdin", 0), ("/dev/stdout", 1), ("/dev/fd/2", 2), ("/proc/self/fd/0", 0)] {
+                assert_eq!(descriptor(name), Some(number), "{name}");
             }
         }
-        for name in ["/dev/null", "/", "fd/0", "stdin", "/proc/self/status"] {
-            assert!(!is_descriptor(Path::new(name)), "{name}");
+        for name in ["/dev/null", "/", "fd/0", "stdin", "0", "/proc/self/status"] {
+            assert_eq!(descriptor(name), None, "{name}");
         }
     }
 

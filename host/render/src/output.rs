@@ -2,7 +2,7 @@
 
 use std::fs::File;
 use std::io::{self, BufWriter, Seek, Write};
-use std::path::{Path, PathBuf};
+use std::path::PathBuf;
 
 use crate::failure::Failure;
 use crate::files::Identity;
@@ -27,7 +27,9 @@ impl Output {
         let opened = match kind {
             Kind::File { path, old } => Temporary::create(&path, old.as_ref())
                 .and_then(|(temporary, file)| Ok((Sound::of_file(file)?, Some((temporary, path))))),
-            Kind::Stream(path) => open_stream(&path).and_then(|file| Ok((Sound::of_stream(file)?, None))),
+            Kind::Stream(path) => {
+                File::options().write(true).open(path).and_then(|file| Ok((Sound::of_stream(file)?, None)))
+            }
             Kind::StandardOutput(file) => Sound::of_stream(file).map(|sound| (sound, None)),
         };
         let (sound, replacing) = opened.map_err(|error| Failure::writing(&name, &error))?;
@@ -70,11 +72,6 @@ impl Output {
         };
         finished.map_err(|error| Failure::writing(name, &error))
     }
-}
-
-/// What stands in a file before the sound stays: a descriptor may stand for a file that others write too.
-fn open_stream(path: &Path) -> io::Result<File> {
-    File::options().append(true).open(path)
 }
 
 /// A WAV file as a stream of pairs.

@@ -50,6 +50,7 @@ impl<'a> Rendering<'a> {
         if let Some(cd) = &options.cd {
             refuse_same(&words::name(cd), Cd::identity(cd)?, &target)?;
         }
+        target.check_replaceable()?;
         let loader = Loader::new(options.size).map_err(|refusal| Failure::new(refusal.to_string()))?;
         let cd = options.cd.as_deref().map(Cd::open).transpose()?;
         let (script_name, folder) = (source.name.clone(), source.folder.clone());

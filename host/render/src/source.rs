@@ -54,7 +54,8 @@ impl Source {
         if metadata.is_dir() {
             return Err(files::is_a_directory());
         }
-        let stands_in_folder = metadata.is_file() && !files::is_descriptor(path);
+        let is_descriptor = files::descriptor(&files::behind_links(path)?).is_some();
+        let stands_in_folder = metadata.is_file() && !is_descriptor;
         let folder = path.parent().filter(|_| stands_in_folder).unwrap_or(Path::new(""));
         Ok(Source {
             name: words::name(path),

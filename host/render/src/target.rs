@@ -23,13 +23,10 @@ pub enum Kind {
         path: PathBuf,
         old: Option<Metadata>,
     },
-    /// A device, a FIFO or an open descriptor.
+    /// A device or a FIFO.
     Stream(PathBuf),
     StandardOutput(File),
 }
-
-/// Links that lead to links are followed so often.
-const MOST_LINKS: usize = 40;
 
 /// As messages name the output that the command line names.
 pub fn shown(name: &OsStr) -> String {
@@ -57,11 +54,19 @@ impl Target {
             _ => named(Path::new(name)),
         };
         let kind = kind.map_err(|error| Failure::writing(&shown, &error))?;
-        if let Kind::File { path, old: Some(_) } = &kind {
-            check_replaceable(path, &shown)?;
-        }
         let identity = kind.metadata().as_ref().and_then(Identity::of);
         Ok(Target { name: shown, identity, kind })
+    }
+
+    /// A file is replaced only if it may be written, and if it is empty or a WAV file: names are easily exchanged.
+    pub fn check_replaceable(&self) -> Result<(), Failure> {
+        let Kind::File { path, old: Some(_) } = &self.kind else { return Ok(()) };
+        let name = &self.name;
+        let beginning = beginning_of_writable(path).map_err(|error| Failure::writing(name, &error))?;
+        if beginning.is_empty() || wav::is_wav(&beginning) {
+            return Ok(());
+        }
+        Err(Failure::new(format!("{name} is there and is no WAV file, so it is not replaced; nothing was written")))
     }
 }
 
@@ -83,14 +88,17 @@ fn standard_output() -> io::Result<Kind> {
 }
 
 fn named(path: &Path) -> io::Result<Kind> {
-    let path = behind_links(path)?;
-    match fs::metadata(&path) {
-        Ok(metadata) if metadata.is_dir() => Err(files::is_a_directory()),
-        Ok(_) if files::is_descriptor(&path) => Ok(Kind::Stream(path)),
-        Ok(metadata) if metadata.is_file() => Ok(Kind::File { path, old: Some(metadata) }),
-        Ok(_) => Ok(Kind::Stream(path)),
-        Err(error) if error.kind() == io::ErrorKind::NotFound => new_file(path),
-        Err(error) => Err(error),
+    let path = files::behind_links(path)?;
+    match (fs::metadata(&path), files::descriptor(&path)) {
+        (Ok(metadata), _) if metadata.is_dir() => Err(files::is_a_directory()),
+        (Ok(_), Some(1)) => standard_output(),
+        (Ok(metadata), None) if metadata.is_file() => Ok(Kind::File { path, old: Some(metadata) }),
+        (Ok(metadata), Some(_)) if metadata.is_file() => {
+            Err(io::Error::other("a file is open there; name it by its own name"))
+        }
+        (Ok(_), _) => Ok(Kind::Stream(path)),
+        (Err(error), None) if error.kind() == io::ErrorKind::NotFound => new_file(path),
+        (Err(error), _) => Err(error),
     }
 }
 
@@ -101,31 +109,10 @@ fn new_file(path: PathBuf) -> io::Result<Kind> {
     Ok(Kind::File { path, old: None })
 }
 
-/// The path that symbolic links lead to, whether or not a file is there.
-fn behind_links(path: &Path) -> io::Result<PathBuf> {
-    let mut path = path.to_owned();
-    for _ in 0..=MOST_LINKS {
-        let is_link = fs::symlink_metadata(&path).is_ok_and(|metadata| metadata.is_symlink());
-        if !is_link || files::is_descriptor(&path) {
-            return Ok(path);
-        }
-        let link = fs::read_link(&path)?;
-        path = path.parent().unwrap_or(Path::new("")).join(link);
-    }
-    Err(io::Error::other("too many symbolic links lead to each other"))
-}
-
-/// A file is replaced only if it may be written, and if it is empty or a WAV file: names are easily exchanged.
-fn check_replaceable(path: &Path, name: &str) -> Result<(), Failure> {
+/// Opens the file for writing too, which changes nothing in it, but fails if that is not allowed.
+fn beginning_of_writable(path: &Path) -> io::Result<Vec<u8>> {
+    let file = File::options().read(true).write(true).open(path)?;
     let mut beginning = Vec::new();
-    File::options()
-        .read(true)
-        .write(true)
-        .open(path)
-        .and_then(|file| file.take(12).read_to_end(&mut beginning))
-        .map_err(|error| Failure::writing(name, &error))?;
-    if beginning.is_empty() || wav::is_wav(&beginning) {
-        return Ok(());
-    }
-    Err(Failure::new(format!("{name} is there and is no WAV file, so it is not replaced; nothing was written")))
+    file.take(12).read_to_end(&mut beginning)?;
+    Ok(beginning)
 }

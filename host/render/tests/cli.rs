@@ -1,0 +1,20 @@
+//! The program as it is used: each test runs it in a folder of its own.
+
+#[path = "cli/cd.rs"]
+mod cd;
+#[path = "cli/folder.rs"]
+mod folder;
+#[path = "cli/lines.rs"]
+mod lines;
+#[path = "cli/loads.rs"]
+mod loads;
+#[path = "cli/replacing.rs"]
+mod replacing;
+#[path = "cli/same_file.rs"]
+mod same_file;
+#[path = "cli/signals.rs"]
+mod signals;
+#[path = "cli/streams.rs"]
+mod streams;
+#[path = "cli/usage.rs"]
+mod usage;
