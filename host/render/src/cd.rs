@@ -35,12 +35,12 @@ impl Cd {
         }
     }
 
-    /// Fills the samples with the next pairs: left, right, left, .. What is given in words is to be told.
+    /// Fills the samples with the next pairs: left, right, left, .. It may return a note for the user.
     pub fn play(&mut self, samples: &mut [i16]) -> Result<Option<String>, Failure> {
         match self.sound.play(samples) {
             Ok(false) => Ok(None),
             Ok(true) => Ok(Some(format!(
-                "{} is shorter than its header says: it ends at {}, and silence follows",
+                "{} is shorter than its header says: its sound ends at {}, and silence follows",
                 self.name,
                 words::seconds(self.sound.pairs)
             ))),
@@ -51,7 +51,7 @@ impl Cd {
 
 struct Sound<R> {
     input: R,
-    /// What is left.
+    /// What is left to play.
     extent: Extent,
     /// Pairs that were played.
     pairs: u64,
@@ -59,7 +59,7 @@ struct Sound<R> {
 }
 
 impl<R: Read> Sound<R> {
-    /// Gives whether the file just now ended too early.
+    /// Returns whether the file has just ended too early.
     fn play(&mut self, samples: &mut [i16]) -> io::Result<bool> {
         let asked = match self.extent {
             Extent::Bytes(left) => left.min(2 * samples.len() as u64),

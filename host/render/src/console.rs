@@ -1,4 +1,4 @@
-//! What is said on standard error: lines, and on a terminal the progress.
+//! Messages on standard error, and the progress if it is a terminal.
 
 use std::io::{self, IsTerminal, Write};
 use std::time::{Duration, Instant};
@@ -9,7 +9,7 @@ const BETWEEN_PROGRESS: Duration = Duration::from_millis(200);
 
 pub struct Console {
     terminal: bool,
-    /// The width of the progress that stands on the terminal's last line.
+    /// The width of the progress that the terminal shows, or 0.
     shown: usize,
     next_progress: Instant,
 }
@@ -24,7 +24,7 @@ impl Console {
         put(&format!("{cleared}{words}\n"));
     }
 
-    /// Shows how much is rendered, now and then, and only on a terminal.
+    /// Shows on a terminal, now and then, how much is rendered.
     pub fn progress(&mut self, pairs: u64) {
         if !self.terminal || Instant::now() < self.next_progress {
             return;
@@ -35,7 +35,7 @@ impl Console {
         self.next_progress = Instant::now() + BETWEEN_PROGRESS;
     }
 
-    /// What clears the progress that is shown.
+    /// The characters that clear the progress.
     fn clearing(&mut self) -> String {
         match std::mem::take(&mut self.shown) {
             0 => String::new(),
@@ -44,7 +44,7 @@ impl Console {
     }
 }
 
-/// A message that cannot be written changes nothing about the sound.
+/// Ignores errors: the sound does not depend on whether anyone reads the messages.
 fn put(text: &str) {
     let _ = io::stderr().write_all(text.as_bytes());
 }

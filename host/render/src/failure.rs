@@ -5,7 +5,7 @@ use std::io;
 
 use crate::words;
 
-/// Why a run failed, in plain words that name the file.
+/// The reason in plain words, with the name of the file.
 #[derive(Debug)]
 pub struct Failure(String);
 

@@ -1,4 +1,4 @@
-//! Files by whatever name: one file under two names, the standard streams, and names of open descriptors.
+//! Files and their names: one file under two names, links, standard streams, and open descriptors.
 
 use std::fs::{self, File, Metadata};
 use std::io;
@@ -10,8 +10,8 @@ pub const STANDARD_INPUT: &str = "standard input";
 pub const STANDARD_OUTPUT: &str = "standard output";
 pub const STANDARD_ERROR: &str = "standard error";
 
-/// Tells a regular file or a pipe from all others. A terminal or another device may well be input and output at once, so
-/// it has none.
+/// Tells one regular file or pipe from another, whatever their names. A device has no identity, because a terminal may be
+/// input and output at once.
 #[derive(Debug, Clone, Copy, PartialEq, Eq)]
 pub struct Identity {
     device: u64,
@@ -30,10 +30,10 @@ pub fn standard(stream: impl AsFd) -> io::Result<File> {
     Ok(File::from(stream.as_fd().try_clone_to_owned()?))
 }
 
-/// Links that lead to links are followed so often.
+/// How many links in a row are followed.
 const MOST_LINKS: usize = 40;
 
-/// The path that symbolic links lead to, whether or not a file is there. The name of an open descriptor is not followed.
+/// The path that symbolic links lead to, whether or not a file is there. The name of an open descriptor stays as it is.
 pub fn behind_links(path: &Path) -> io::Result<PathBuf> {
     let mut path = path.to_owned();
     for _ in 0..=MOST_LINKS {
@@ -44,18 +44,17 @@ pub fn behind_links(path: &Path) -> io::Result<PathBuf> {
         let link = fs::read_link(&path)?;
         path = path.parent().unwrap_or(Path::new("")).join(link);
     }
-    Err(io::Error::other("too many symbolic links lead to each other"))
+    Err(io::Error::other("too many levels of symbolic links"))
 }
 
-/// The number of the open descriptor that the path, behind all links, is the name of: 1 for /proc/self/fd/1, to which
-/// /dev/stdout leads.
+/// The number of the open descriptor that a path behind all links names: 1 for /proc/self/fd/1, where /dev/stdout leads.
 pub fn descriptor(path: &Path) -> Option<u32> {
     let folder = fs::canonicalize(path.parent()?).ok()?;
     let is_own = fs::canonicalize("/proc/self/fd").is_ok_and(|own| own == folder);
     path.file_name().filter(|_| is_own)?.to_str()?.parse().ok()
 }
 
-/// The error of whoever takes a folder for a file.
+/// The system's error for a folder in the place of a file.
 pub fn is_a_directory() -> io::Error {
     const EISDIR: i32 = 21;
     io::Error::from_raw_os_error(EISDIR)

@@ -1,4 +1,4 @@
-//! What was found wrong in a run, and the exit status that tells it.
+//! What a run found wrong, and the exit status for it.
 
 use crate::words;
 

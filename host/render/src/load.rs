@@ -21,7 +21,8 @@ pub type NotLoaded = String;
 
 pub struct Loader {
     size: Size,
-    /// A chip that is ready for transfers inward. It stands in for the one that sounds, whose state so stays as it is.
+    /// The state of a chip that is ready for transfers inward. A load swaps it in, so that the state of the chip that
+    /// sounds stays as it is.
     ready: State,
 }
 
@@ -37,15 +38,15 @@ impl Loader {
     pub fn room(&self, address: u32) -> Result<usize, NotLoaded> {
         let ram_bytes = self.size.ram_bytes();
         if address as usize >= ram_bytes {
-            return Err(format!("address {address:X}h is beyond sound RAM, which has {ram_bytes} bytes"));
+            return Err(format!("address {address:X}h lies beyond the end of sound RAM ({ram_bytes} bytes)"));
         }
         if address % UNIT_BYTES != 0 {
-            return Err(format!("address {address:X}h is no multiple of 8"));
+            return Err(format!("address {address:X}h is not a multiple of 8"));
         }
         Ok(ram_bytes - address as usize)
     }
 
-    /// The bytes are of an even number, and fit.
+    /// Expects an even number of bytes that fit.
     pub fn load(&self, spu: &mut Spu, address: u32, bytes: &[u8]) -> Result<(), Refusal> {
         let state = spu.state().clone();
         spu.set_state(self.ready.clone())?;
@@ -61,7 +62,7 @@ fn move_in(spu: &mut Spu, address: u32, bytes: &[u8]) -> Result<(), Refusal> {
     halfwords.chunks(MOST_HALFWORDS).try_for_each(|part| spu.transfer_in(part).map(|_| ()))
 }
 
-/// Looks at a file without opening it.
+/// Looks at a file without opening it: a FIFO would wait for its writer.
 pub fn identity(path: &Path) -> Result<Option<Identity>, NotLoaded> {
     match fs::metadata(path) {
         Ok(metadata) if metadata.is_dir() => Err(words::error(&files::is_a_directory())),
@@ -70,22 +71,22 @@ pub fn identity(path: &Path) -> Result<Option<Identity>, NotLoaded> {
     }
 }
 
-/// The bytes of a file, if there is room for them. No more are read than that takes.
+/// The bytes of a file, if there is room for them. It reads at most one byte more than there is room for.
 pub fn read(path: &Path, room: usize) -> Result<Vec<u8>, NotLoaded> {
     let unreadable = |error| words::error(&error);
     let file = File::open(path).map_err(unreadable)?;
     let length = file.metadata().map_err(unreadable)?.len();
     if length > room as u64 {
-        return Err(format!("it has {length} bytes, and {room} fit between the address and the end of sound RAM"));
+        return Err(format!("it has {length} bytes, but only {room} fit at this address"));
     }
     let mut bytes = Vec::new();
     file.take(room as u64 + 1).read_to_end(&mut bytes).map_err(unreadable)?;
     match bytes.len() {
         0 => Err("it is empty".to_owned()),
-        length if length > room => {
-            Err(format!("it has more than the {room} bytes that fit between the address and the end of sound RAM"))
+        length if length > room => Err(format!("it has more bytes than the {room} that fit at this address")),
+        length if length % 2 == 1 => {
+            Err(format!("its length of {length} bytes is odd, but sound RAM takes halfwords of 2 bytes"))
         }
-        length if length % 2 == 1 => Err(format!("it has {length} bytes, and sound RAM takes pairs of bytes")),
         _ => Ok(bytes),
     }
 }
@@ -150,14 +151,17 @@ mod tests {
         assert_eq!(small.room(0), Ok(65536));
         assert_eq!(small.room(0xFFF8), Ok(8));
         assert_eq!(large.room(0x7FFF8), Ok(8));
-        assert_eq!(small.room(0x10000), Err("address 10000h is beyond sound RAM, which has 65536 bytes".to_owned()));
+        assert_eq!(
+            small.room(0x10000),
+            Err("address 10000h lies beyond the end of sound RAM (65536 bytes)".to_owned())
+        );
         assert!(large.room(0x80000).is_err());
-        assert_eq!(small.room(0x1004), Err("address 1004h is no multiple of 8".to_owned()));
+        assert_eq!(small.room(0x1004), Err("address 1004h is not a multiple of 8".to_owned()));
     }
 
     #[test]
     fn a_file_without_end_is_not_read_to_its_end() {
-        let words = "it has more than the 16 bytes that fit between the address and the end of sound RAM";
+        let words = "it has more bytes than the 16 that fit at this address";
         assert_eq!(read(Path::new("/dev/zero"), 16), Err(words.to_owned()));
         assert_eq!(read(Path::new("/dev/null"), 16), Err("it is empty".to_owned()));
     }

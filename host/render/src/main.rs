@@ -4,17 +4,17 @@
 //!
 //! - A script is what the program `bench` reads, and more: `w OFFSET VALUE` writes a register, `s V ..` moves halfwords
 //!   to sound RAM, `t N` sounds for N ticks, `l ADDRESS FILE` loads a file to sound RAM, and `#` begins a comment.
-//! - A line that is bad or refused is reported and left out. So is told the first tick from which the sound may rest on
-//!   memory that nobody loaded.
-//! - A file is written under another name beside the target and takes its place when it is whole, so that a run that
-//!   fails or is interrupted leaves what was there before. Input and output are never the same file, and a file that is
-//!   no WAV file is not replaced.
-//! - Standard output, a device or a FIFO is written as the sound is rendered.
+//! - The program reports a line that is bad or refused, and leaves it out. It also reports the first tick from which the
+//!   sound may rest on memory that nobody loaded.
+//! - The sound goes to a temporary file beside the target, which takes the target's place when it is whole. So a run that
+//!   fails or is interrupted leaves what was there before. The program never replaces a file that is no WAV file, nor one
+//!   that it also reads.
+//! - Standard output, devices and FIFOs get the sound while it is rendered.
 //! - The exit status is a sum: 1 the sound is in doubt, 2 lines were bad or refused, 4 failed.
 //!
-//! The parts: [`options`] is the command line; [`source`] and [`target`] look at what the names stand for; [`script`],
-//! [`cd`] with [`wav_in`], and [`load`] read; [`output`] with [`temporary`] and [`wav`] writes; [`rendering`] leads;
-//! [`console`], [`findings`], [`failure`] and [`words`] tell; [`system`] has signals.
+//! [`options`] reads the command line; [`source`] and [`target`] find out what its names stand for. [`rendering`] leads a
+//! run: [`script`], [`cd`] with [`wav_in`], and [`load`] read, and [`output`] with [`temporary`] and [`wav`] writes.
+//! [`console`], [`findings`], [`failure`] and [`words`] make messages, and [`system`] handles signals.
 
 #![deny(unsafe_code)]
 

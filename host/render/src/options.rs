@@ -20,31 +20,31 @@ Options, before or after the names:
                   (16 bits, stereo, 44,100 Hz, PCM)
   -h, --help      print this text
   --version       print the version
-  --              what follows are names, even if they begin with -
+  --              what follows is a name, even if it begins with -
 
 Lines of a script:
   w OFFSET VALUE  write a register, by its offset from 1F801C00h (hex, 1 to 4 digits)
   s V ..          move halfwords to sound RAM at the transfer address (hex, 1 to 4 digits)
   t N             sound for N ticks of 1/44100 s (decimal, up to 65535)
   l ADDRESS FILE  load a file's bytes to sound RAM at an address (hex, 1 to 5 digits, a multiple of 8)
-  # ..            a comment; blank lines are passed over too
+  # ..            a comment; blank lines are skipped too
 
 Spaces, tabs and CR part the fields. FILE is the rest of the line, so its name may hold spaces. A relative
-FILE is looked for beside the script; if the script is standard input or a pipe, in the current folder. A
-load takes no time and leaves all registers as they are, whatever SPUCNT says.
+FILE is looked for beside the script, or in the current folder if the script is standard input or a pipe. A
+load takes no time, works whatever SPUCNT says, and leaves all registers as they are.
 
-A line that is bad or refused is reported by its number and left out; the others are rendered. The first
-tick from which the sound may rest on memory that nobody loaded is reported too.
+render reports a line that is bad or refused by its number, and leaves it out. It also reports the first tick
+from which the sound may rest on memory that nobody loaded.
 
-OUT is replaced only when the sound is whole. A run that fails or is interrupted leaves it as it was before.
-A file that is there and is no WAV file is never replaced, nor is the script, the CD file or a loaded file.
-Standard output, a device or a FIFO is written as the sound is rendered, with a header for unknown length.
-A CD file that is shorter than its header says is played as far as it goes, and that is reported.
+render replaces the file OUT only when the sound is whole. A run that fails or is interrupted leaves OUT as
+it was before. render never replaces a file that is no WAV file, nor one that it also reads. Standard output,
+devices and FIFOs get the sound while it is rendered, with a header for unknown length; a file holds up to 6
+hours and 45 minutes. If a CD file ends before its header says so, render reports it and plays silence.
 
 Exit status, the sum of what applies:
   1  the sound may rest on memory that nobody loaded
   2  lines were bad or refused; the others are rendered
-  4  failed: wrong usage, or a file that cannot be read or written; OUT is not replaced
+  4  failed: wrong usage, or a file that cannot be read or written; the file OUT is as it was before
 ";
 
 pub const VERSION: &str = concat!("render ", env!("CARGO_PKG_VERSION"), "\n");
@@ -66,7 +66,7 @@ pub struct Options {
     pub out: OsString,
 }
 
-/// What is wrong with a command line is told in plain words.
+/// Tells in plain words what is wrong with a command line.
 pub fn parse(arguments: impl IntoIterator<Item = OsString>) -> Result<Request, String> {
     let mut arguments = arguments.into_iter();
     let mut size = Size::K512;
@@ -119,7 +119,7 @@ fn two(names: Vec<OsString>) -> Result<(OsString, OsString), String> {
     let script = names.next().ok_or("SCRIPT and OUT are missing")?;
     let out = names.next().ok_or("OUT is missing")?;
     match names.next() {
-        Some(third) => Err(format!("{} is one name too many", shown(&third))),
+        Some(third) => Err(format!("one name too many: {}", shown(&third))),
         None if script.is_empty() => Err("the name of SCRIPT is empty".to_owned()),
         None if out.is_empty() => Err("the name of OUT is empty".to_owned()),
         None => Ok((script, out)),
@@ -170,7 +170,7 @@ mod tests {
         for (line, words) in [
             ("", "SCRIPT and OUT are missing"),
             ("a", "OUT is missing"),
-            ("a b c", "c is one name too many"),
+            ("a b c", "one name too many: c"),
             ("--bogus a b", "unknown option --bogus"),
             ("a b -x", "unknown option -x"),
             ("a b --out=c", "unknown option --out=c"),

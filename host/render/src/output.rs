@@ -17,7 +17,7 @@ pub struct Output {
     name: String,
     identity: Option<Identity>,
     sound: Sound<File>,
-    /// The temporary file, and whose place it is to take; of a stream there is none.
+    /// The temporary file and the path whose place it will take. A stream has none.
     replacing: Option<(Temporary, PathBuf)>,
 }
 
@@ -43,7 +43,7 @@ impl Output {
         self.replacing.is_none()
     }
 
-    /// Whether this is the file that is written, or the one that is to be replaced.
+    /// Whether this is the file that is written or the one that it will replace.
     pub fn is(&self, identity: Option<Identity>) -> bool {
         let temporary = self.replacing.as_ref().and_then(|(temporary, _)| temporary.identity);
         identity.is_some() && (identity == self.identity || identity == temporary)
@@ -63,7 +63,7 @@ impl Output {
         self.sound.to.flush().map_err(|error| Failure::writing(&self.name, &error))
     }
 
-    /// Completes the output; only now is a file replaced.
+    /// Completes the output. A file takes the target's place only now.
     pub fn finish(self) -> Result<(), Failure> {
         let Output { name, sound, replacing, .. } = self;
         let finished = match replacing {
@@ -111,7 +111,7 @@ impl<W: Write> Sound<W> {
 }
 
 impl Sound<File> {
-    /// Completes the header, and waits until the disk has all.
+    /// Completes the header and waits until the disk has everything.
     fn finish_file(mut self) -> io::Result<()> {
         self.to.rewind()?;
         self.to.write_all(&wav::header(Length::Pairs(self.pairs)))?;
@@ -128,7 +128,7 @@ impl Sound<File> {
     }
 }
 
-/// A disk that is full may say so only now. Some file systems cannot tell.
+/// A full disk may say so only now. Some file systems do not offer this.
 fn sync(file: &File) -> io::Result<()> {
     match file.sync_all() {
         Err(error) if matches!(error.kind(), io::ErrorKind::InvalidInput | io::ErrorKind::Unsupported) => Ok(()),

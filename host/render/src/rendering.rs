@@ -37,7 +37,7 @@ pub struct Rendering<'a> {
 }
 
 impl<'a> Rendering<'a> {
-    /// Looks at all files before it opens the output, which comes last.
+    /// Looks at all files first and opens the output last.
     pub fn prepare(
         options: &Options,
         console: &'a mut Console,
@@ -73,7 +73,7 @@ impl<'a> Rendering<'a> {
         self.output.is_stream()
     }
 
-    /// Renders the whole script, and gives how many pairs that made.
+    /// Renders the whole script and returns the number of pairs.
     pub fn run(mut self) -> Result<u64, Failure> {
         while let Some(command) = self.next_command()? {
             self.obey(command)?;
@@ -83,7 +83,7 @@ impl<'a> Rendering<'a> {
         Ok(pairs)
     }
 
-    /// Whoever listens to a stream hears all there is while the script is waited for.
+    /// Passes on all sound before it waits for more of the script, for whoever listens to a stream.
     fn next_command(&mut self) -> Result<Option<Command>, Failure> {
         if self.script.must_read() {
             self.output.flush()?;
@@ -134,7 +134,7 @@ impl<'a> Rendering<'a> {
         Ok(())
     }
 
-    /// A line that loads the output file ends the run: that file would be replaced by the sound.
+    /// Loading the output file ends the run, because the sound would replace what the script asks for.
     fn load(&mut self, address: u32, file: &Path) -> Result<(), Failure> {
         let path = self.folder.join(file);
         let name = words::name(&path);
@@ -166,7 +166,7 @@ impl<'a> Rendering<'a> {
         }
     }
 
-    /// The doubt came in a tick of the run that is about to be written.
+    /// Expects the tick within the run that the output gets next.
     fn report_doubt(&mut self, within_run: Option<usize>) {
         let Some(within_run) = within_run else { return };
         let tick = self.output.pairs() + within_run as u64;
@@ -186,7 +186,7 @@ fn refuse_same(name: &str, identity: Option<Identity>, target: &Target) -> Resul
     Err(Failure::new(format!("{name} and the output {} are the same file; nothing was written", target.name)))
 }
 
-/// Messages there would land in the sound.
+/// Messages must not land in the sound.
 fn standard_error() -> Option<Identity> {
     let file = files::standard(std::io::stderr()).ok()?;
     Identity::of(&file.metadata().ok()?)

@@ -12,20 +12,20 @@ pub enum Command {
         offset: u32,
         value: u16,
     },
-    /// Of more than [`MOST_VALUES`], one more than that is kept.
+    /// At most one value more than a transfer takes.
     TransferIn(Vec<u16>),
     Ticks(u16),
     Load {
         address: u32,
         file: PathBuf,
     },
-    /// The line is bad; this is said of it.
+    /// A bad line, with what is expected.
     Bad(&'static str),
 }
 
-/// The halfwords that a transfer takes.
+/// How many halfwords a transfer takes.
 const MOST_VALUES: usize = 32;
-/// No line is longer, so that a file without line ends does not fill the memory.
+/// The longest line, so that a file without line ends does not fill the memory.
 const MOST_BYTES: u64 = 64 << 20;
 
 const BAD_WRITE: &str = "w OFFSET VALUE is expected, each hex, 1 to 4 digits";
@@ -33,7 +33,7 @@ const BAD_TRANSFER: &str = "s V .. is expected, each V hex, 1 to 4 digits";
 const BAD_TICKS: &str = "t N is expected, N decimal, up to 65535";
 const BAD_LOAD: &str = "l ADDRESS FILE is expected, ADDRESS hex, 1 to 5 digits";
 const BAD_WORD: &str = "w OFFSET VALUE, s V .., t N, l ADDRESS FILE or # is expected";
-const TOO_LONG: &str = "it is longer than 64 MiB";
+const TOO_LONG: &str = "at most 64 MiB are expected";
 
 /// The commands of a script, line by line.
 pub struct Script<R> {
@@ -52,12 +52,12 @@ impl<R: Read> Script<R> {
         self.number
     }
 
-    /// Whether the next command may have to wait for whoever writes the script.
+    /// Whether the next command has to be read first, which may take time.
     pub fn must_read(&self) -> bool {
         self.input.buffer().is_empty()
     }
 
-    /// The next command; blank lines and comments are passed over.
+    /// The next command. It skips blank lines and comments.
     pub fn next_command(&mut self) -> io::Result<Option<Command>> {
         while self.read_line()? {
             self.number += 1;
@@ -73,7 +73,7 @@ impl<R: Read> Script<R> {
         Ok(None)
     }
 
-    /// Reads a line, or as much of it as a line may have. Gives whether there was one.
+    /// Reads a line, or as much of it as a line may have, and returns whether there was any.
     fn read_line(&mut self) -> io::Result<bool> {
         self.line.clear();
         Ok(self.input.by_ref().take(MOST_BYTES).read_until(b'\n', &mut self.line)? > 0)
@@ -115,7 +115,7 @@ fn fields(line: &[u8]) -> impl Iterator<Item = &[u8]> {
     line.split(is_blank).filter(|field| !field.is_empty())
 }
 
-/// Of a bad line, what is expected.
+/// Returns what is expected if the line is bad.
 fn parse(line: &[u8]) -> Result<Command, &'static str> {
     let (word, rest) = first_field(line);
     match word {
@@ -132,7 +132,7 @@ fn write(rest: &[u8]) -> Option<Command> {
     Some(Command::Write { offset: hex(offset, 4)?, value: hex(value, 4)? as u16 })
 }
 
-/// All values are looked at, so that a bad one among too many makes a bad line.
+/// Looks at all values, so that a bad one among too many makes a bad line.
 fn transfer_in(rest: &[u8]) -> Option<Command> {
     let mut values = Vec::new();
     for field in fields(rest) {

@@ -13,7 +13,7 @@ pub struct Source {
     /// As messages name it.
     pub name: String,
     pub identity: Option<Identity>,
-    /// Where the files that the script names are looked for.
+    /// The folder of the files that the script names.
     pub folder: PathBuf,
     place: Place,
 }
@@ -51,11 +51,14 @@ impl Source {
 
     fn named(path: &Path) -> io::Result<Source> {
         let metadata = fs::metadata(path)?;
+        let descriptor = files::descriptor(&files::behind_links(path)?);
+        if descriptor == Some(0) {
+            return Source::standard_input();
+        }
         if metadata.is_dir() {
             return Err(files::is_a_directory());
         }
-        let is_descriptor = files::descriptor(&files::behind_links(path)?).is_some();
-        let stands_in_folder = metadata.is_file() && !is_descriptor;
+        let stands_in_folder = metadata.is_file() && descriptor.is_none();
         let folder = path.parent().filter(|_| stands_in_folder).unwrap_or(Path::new(""));
         Ok(Source {
             name: words::name(path),

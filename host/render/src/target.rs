@@ -18,7 +18,7 @@ pub struct Target {
 }
 
 pub enum Kind {
-    /// A regular file to be made or replaced: its path behind all links, and what stands there.
+    /// A regular file to create or to replace: its path behind all links, and the metadata of what is there now.
     File {
         path: PathBuf,
         old: Option<Metadata>,
@@ -36,7 +36,7 @@ pub fn shown(name: &OsStr) -> String {
     }
 }
 
-/// What is with the output after a run that failed before it opened the output, or that left no trace there.
+/// The last line of a run that failed and left the output alone.
 pub fn untouched(name: &OsStr) -> String {
     let shown = shown(name);
     match fs::metadata(name) {
@@ -58,7 +58,8 @@ impl Target {
         Ok(Target { name: shown, identity, kind })
     }
 
-    /// A file is replaced only if it may be written, and if it is empty or a WAV file: names are easily exchanged.
+    /// Refuses a file that may not be written, and one that has content but is no WAV file: the two names are easily
+    /// exchanged.
     pub fn check_replaceable(&self) -> Result<(), Failure> {
         let Kind::File { path, old: Some(_) } = &self.kind else { return Ok(()) };
         let name = &self.name;
@@ -66,7 +67,7 @@ impl Target {
         if beginning.is_empty() || wav::is_wav(&beginning) {
             return Ok(());
         }
-        Err(Failure::new(format!("{name} is there and is no WAV file, so it is not replaced; nothing was written")))
+        Err(Failure::new(format!("{name} is no WAV file, and render replaces only WAV files; nothing was written")))
     }
 }
 
@@ -94,7 +95,7 @@ fn named(path: &Path) -> io::Result<Kind> {
         (Ok(_), Some(1)) => standard_output(),
         (Ok(metadata), None) if metadata.is_file() => Ok(Kind::File { path, old: Some(metadata) }),
         (Ok(metadata), Some(_)) if metadata.is_file() => {
-            Err(io::Error::other("a file is open there; name it by its own name"))
+            Err(io::Error::other("this is an open file; give the file's own name"))
         }
         (Ok(_), _) => Ok(Kind::Stream(path)),
         (Err(error), None) if error.kind() == io::ErrorKind::NotFound => new_file(path),
@@ -109,7 +110,7 @@ fn new_file(path: PathBuf) -> io::Result<Kind> {
     Ok(Kind::File { path, old: None })
 }
 
-/// Opens the file for writing too, which changes nothing in it, but fails if that is not allowed.
+/// Opens the file for writing as well, which fails if that is not allowed and otherwise changes nothing.
 fn beginning_of_writable(path: &Path) -> io::Result<Vec<u8>> {
     let file = File::options().read(true).write(true).open(path)?;
     let mut beginning = Vec::new();

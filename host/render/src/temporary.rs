@@ -1,4 +1,4 @@
-//! The file that is written beside a target, and takes its place when it is whole.
+//! A file beside the target that gets the sound, and takes the target's place when it is whole.
 
 use std::fs::{self, File, Metadata, Permissions};
 use std::io;
@@ -9,24 +9,24 @@ use std::process;
 use crate::files::Identity;
 use crate::system::{self, Ending};
 
-/// A temporary file. It is removed if it takes no place.
+/// The temporary file. Dropping it removes the file, unless it has taken the target's place.
 pub struct Temporary {
     path: PathBuf,
     pub identity: Option<Identity>,
     placed: bool,
 }
 
-/// Bytes of the target's name in that of the temporary file: names longer than 255 bytes are not allowed.
+/// How many bytes of the target's name the temporary name holds: a name has at most 255 bytes.
 const MOST_NAME_BYTES: usize = 200;
-/// So many names are tried: an earlier process with the same number may have been killed.
+/// How many names are tried: a killed process with the same number may have left its file.
 const MOST_NAMES: u32 = 100;
 
 impl Temporary {
-    /// Makes the file, empty, with the owner and the mode of the file whose place it is to take.
+    /// Creates the file with the owner and the mode of the file that it will replace.
     pub fn create(target: &Path, old: Option<&Metadata>) -> io::Result<(Temporary, File)> {
         let (file, temporary) = system::uninterrupted(|| create_named(target, old.is_some()))?;
         if let Some(old) = old {
-            let _ = fchown(&file, Some(old.uid()), Some(old.gid())); // only root may give files away
+            let _ = fchown(&file, Some(old.uid()), Some(old.gid())); // only root may give a file away
             file.set_permissions(Permissions::from_mode(old.mode() & 0o777))?;
         }
         Ok((temporary, file))
@@ -51,7 +51,7 @@ impl Drop for Temporary {
     }
 }
 
-/// From here on a signal removes the file.
+/// Creates the file under a free name. From then on a signal removes it.
 fn create_named(target: &Path, private: bool) -> io::Result<(File, Temporary)> {
     for attempt in 0..MOST_NAMES {
         let path = target.with_file_name(name(target, attempt));
@@ -65,7 +65,7 @@ fn create_named(target: &Path, private: bool) -> io::Result<(File, Temporary)> {
             Err(error) => return Err(error),
         }
     }
-    Err(io::Error::other("earlier runs left too many temporary files"))
+    Err(io::Error::other("earlier runs left too many temporary files beside it"))
 }
 
 fn name(target: &Path, attempt: u32) -> String {

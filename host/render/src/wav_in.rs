@@ -1,4 +1,4 @@
-//! Finds the sound in a WAV file, and tells whether it is of the one format that is played.
+//! Finds the sound in a WAV file and checks its format.
 
 use std::io::{self, Read, Seek, SeekFrom};
 
@@ -10,7 +10,7 @@ const WANTED: &str = "16 bits, stereo, 44100 Hz, PCM";
 #[derive(Debug)]
 pub enum Unfit {
     Unreadable(io::Error),
-    /// In words that go on after the file's name.
+    /// Words that go on after the file's name.
     Is(String),
 }
 
@@ -61,8 +61,8 @@ pub fn find_sound(input: &mut (impl Read + Seek)) -> Result<Extent, Unfit> {
     Err(Unfit::Is(format!("is a WAV file without {lacks}")))
 }
 
-/// A length that the writer of a stream never filled in means the rest of the file. A length of 0 is meant where more
-/// follows within the file.
+/// The writer of a stream leaves 0 or FFFFFFFFh for a length that it does not know. A 0 is a true length if the file says
+/// that more chunks follow.
 fn extent(bytes: u32, more_follows: bool) -> Extent {
     match bytes {
         u32::MAX => Extent::ToTheEnd,
@@ -71,7 +71,7 @@ fn extent(bytes: u32, more_follows: bool) -> Extent {
     }
 }
 
-/// Gives where the file ends, if it says so.
+/// Returns where the file ends, if it says so.
 fn read_beginning(input: &mut impl Read) -> Result<Option<u64>, Unfit> {
     let mut beginning = Vec::new();
     input.take(12).read_to_end(&mut beginning)?;
@@ -109,7 +109,7 @@ struct Chunk {
     bytes: u32,
 }
 
-/// `None` at the end of the file. Less than a header is taken for the end too.
+/// Returns `None` at the end of the file, and where less than a header is left.
 fn read_chunk_header(input: &mut impl Read) -> io::Result<Option<Chunk>> {
     let mut header = Vec::new();
     input.take(8).read_to_end(&mut header)?;
@@ -121,7 +121,7 @@ fn padded(bytes: u32) -> u64 {
     u64::from(bytes) + u64::from(bytes % 2)
 }
 
-/// Reads on, so that a pipe will do. What is cut short ends the file.
+/// Reads instead of seeking, so that a pipe will do.
 fn skip(input: &mut impl Read, bytes: u64) -> io::Result<()> {
     io::copy(&mut input.take(bytes), &mut io::sink()).map(|_| ())
 }

@@ -5,7 +5,7 @@ use std::path::Path;
 
 use crate::wav::RATE;
 
-/// A file's name. A control character, which would break the line, is shown as `?`.
+/// A file's name, with `?` for each control character, which would break the line.
 pub fn name(path: &Path) -> String {
     path.to_string_lossy().chars().map(|c| if c.is_control() { '?' } else { c }).collect()
 }

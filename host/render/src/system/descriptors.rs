@@ -1,7 +1,8 @@
 //! Which of the descriptors 0 to 2 were closed when the program started.
 //!
-//! Rust's runtime opens /dev/null in their place before `main`, so that no other file gets such a number. A script read
-//! from there, or a sound written to there, would be lost in silence. So they are looked at earlier.
+//! Rust's runtime opens /dev/null in their place before `main`, so that no other file gets such a number. A closed standard
+//! input would then look like an empty script, and a closed standard output would lose the sound. So this module looks
+//! before the runtime does.
 
 use std::ffi::c_int;
 use std::sync::atomic::{AtomicBool, Ordering};

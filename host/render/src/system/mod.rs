@@ -1,5 +1,4 @@
-//! What the standard library does not offer: signals, and whether a standard stream was closed. All unsafe code of the
-//! package stands here.
+//! Signals and closed standard streams, which the standard library does not cover. This module holds all unsafe code.
 
 mod descriptors;
 mod signals;

@@ -1,4 +1,4 @@
-//! A run that a signal ends leaves no temporary file, says what is with the output, and dies by that signal.
+//! A signal that ends a run removes the temporary file, tells what is with the output, and kills the program.
 
 use std::ffi::{c_char, c_int, c_void, CString};
 use std::io::{self, IsTerminal};
@@ -24,9 +24,9 @@ const SIG_IGN: usize = 1;
 
 const STANDARD_ERROR: c_int = 2;
 
-/// What is with the output if a signal comes now.
+/// The fate of the output if a signal comes now.
 pub enum Ending<'a> {
-    /// Nothing was written, or only this temporary file.
+    /// Nothing is written, or only this temporary file.
     AsBefore(Option<&'a Path>),
     StreamBegun,
     Whole,
@@ -38,14 +38,14 @@ struct LastActs {
     line: String,
 }
 
-/// What is here is never freed, so that the handler may use what it finds.
+/// What it points to is never freed, so that the handler may use it at any time.
 static LAST_ACTS: AtomicPtr<LastActs> = AtomicPtr::new(ptr::null_mut());
 static HELD_BACK: AtomicBool = AtomicBool::new(false);
 /// The signal that came while signals were held back, or 0.
 static CAME: AtomicI32 = AtomicI32::new(0);
 
-/// From now on SIGHUP, SIGINT and SIGTERM end the program as [`set_ending`] says; one that is ignored stays ignored.
-/// A file that grows past the limit of the process becomes an ordinary write error.
+/// Handles SIGHUP, SIGINT and SIGTERM, but leaves an ignored one ignored. Ignores SIGXFSZ, so that the file-size limit of
+/// the process shows as a write error.
 pub fn watch_signals() {
     set_ending(Ending::AsBefore(None));
     // SAFETY: `on_signal` has the type of a handler, and makes only calls that are allowed in one.
@@ -59,7 +59,7 @@ pub fn watch_signals() {
     }
 }
 
-/// From now on a signal removes the temporary file, if there is one, and tells what is with the output.
+/// Tells the handler what to remove and what to print from now on.
 pub fn set_ending(ending: Ending) {
     let (temporary, words) = match ending {
         Ending::AsBefore(temporary) => (temporary, "the output is as it was before"),
@@ -72,7 +72,7 @@ pub fn set_ending(ending: Ending) {
     LAST_ACTS.store(Box::into_raw(acts), SeqCst);
 }
 
-/// Does the work, which takes no time, at once: a signal waits until it is done.
+/// Does some short work and lets a signal wait until it is done.
 pub fn uninterrupted<T>(work: impl FnOnce() -> T) -> T {
     HELD_BACK.store(true, SeqCst);
     let result = work();

@@ -84,9 +84,10 @@ fn a_file_that_is_cut_short_is_played_as_far_as_it_goes() {
     let whole = wav(&FORMAT, &ramp(300));
     folder.write("cd.wav", &whole[..whole.len() - 4 * 200 - 1]);
     folder.write("s.txt", passing_on(1000));
-    folder
-        .render(&["s.txt", "out.wav", "--cd", "cd.wav"])
-        .is(0, "cd.wav is shorter than its header says: it ends at 0.002 s, and silence follows\nout.wav: 0.023 s\n");
+    folder.render(&["s.txt", "out.wav", "--cd", "cd.wav"]).is(
+        0,
+        "cd.wav is shorter than its header says: its sound ends at 0.002 s, and silence follows\nout.wav: 0.023 s\n",
+    );
     assert_ramp_then_silence(&samples(&folder.read("out.wav")), 99);
 }
 

@@ -46,7 +46,7 @@ fn a_sample_above_64_kib_needs_512() {
     folder.render(&["s.txt", "out.wav"]).is(0, "out.wav: 0.100 s\n");
     let small = folder.render(&["--ram", "64", "s.txt", "out.wav"]);
     assert_eq!(small.status, Some(3));
-    let words = "line 1: cannot load block.bin: address 10000h is beyond sound RAM, which has 65536 bytes\n";
+    let words = "line 1: cannot load block.bin: address 10000h lies beyond the end of sound RAM (65536 bytes)\n";
     assert!(small.said.starts_with(words), "{}", small.said);
 }
 
@@ -92,12 +92,12 @@ fn what_is_not_loaded_is_told() {
         "line 1: cannot load missing.bin: No such file or directory\n\
          line 2: cannot load folder: Is a directory\n\
          line 3: cannot load empty.bin: it is empty\n\
-         line 4: cannot load odd.bin: it has 33 bytes, and sound RAM takes pairs of bytes\n\
-         line 5: cannot load large.bin: it has 18 bytes, and 16 fit between the address and the end of sound RAM\n\
-         line 6: cannot load huge.bin: it has 10737418240 bytes, and 524288 fit between the address and the end of sound RAM\n\
-         line 7: cannot load block.bin: address 1004h is no multiple of 8\n\
-         line 8: cannot load block.bin: address 80000h is beyond sound RAM, which has 524288 bytes\n\
-         line 9: cannot load /dev/zero: it has more than the 520192 bytes that fit between the address and the end of sound RAM\n\
+         line 4: cannot load odd.bin: its length of 33 bytes is odd, but sound RAM takes halfwords of 2 bytes\n\
+         line 5: cannot load large.bin: it has 18 bytes, but only 16 fit at this address\n\
+         line 6: cannot load huge.bin: it has 10737418240 bytes, but only 524288 fit at this address\n\
+         line 7: cannot load block.bin: address 1004h is not a multiple of 8\n\
+         line 8: cannot load block.bin: address 80000h lies beyond the end of sound RAM (524288 bytes)\n\
+         line 9: cannot load /dev/zero: it has more bytes than the 520192 that fit at this address\n\
          line 10: bad line (l ADDRESS FILE is expected, ADDRESS hex, 1 to 5 digits)\n\
          line 11: bad line (l ADDRESS FILE is expected, ADDRESS hex, 1 to 5 digits)\n\
          out.wav: 0.100 s, lines bad or refused: 11\n",

@@ -71,7 +71,7 @@ fn links_in_a_circle_are_refused() {
     folder.link("a.wav", "b.wav");
     folder
         .render(&["s.txt", "a.wav"])
-        .is(4, "cannot write a.wav: too many symbolic links lead to each other\na.wav was not written\n");
+        .is(4, "cannot write a.wav: too many levels of symbolic links\na.wav was not written\n");
 }
 
 #[test]

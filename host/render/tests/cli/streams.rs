@@ -61,7 +61,7 @@ fn a_file_that_is_open_for_other_purposes_is_not_written() {
     let folder = Folder::new("descriptors");
     folder.write("s.txt", SILENCE);
     folder.write("other.txt", "w 180 3FFF\n");
-    let words = "a file is open there; name it by its own name";
+    let words = "this is an open file; give the file's own name";
     folder
         .shell("\"$RENDER\" s.txt /dev/stdin <other.txt")
         .is(4, &format!("cannot write /dev/stdin: {words}\n/dev/stdin is as it was before\n"));

@@ -38,7 +38,7 @@ fn wrong_usage_is_told_and_touches_nothing() {
     for (arguments, words) in [
         (&[][..], "SCRIPT and OUT are missing"),
         (&["s.txt"], "OUT is missing"),
-        (&["s.txt", "out.wav", "more.wav"], "more.wav is one name too many"),
+        (&["s.txt", "out.wav", "more.wav"], "one name too many: more.wav"),
         (&["--bogus", "s.txt", "out.wav"], "unknown option --bogus"),
         (&["s.txt", "out.wav", "-q"], "unknown option -q"),
         (&["s.txt", "out.wav", "--ram", "128"], "--ram takes 512 or 64, not 128"),
