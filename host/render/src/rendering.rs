@@ -29,7 +29,7 @@ pub struct Rendering<'a> {
     cd: Option<Cd>,
     script: Script<File>,
     script_name: String,
-    /// Where files that the script names are looked for.
+    /// The folder of the files that the script names.
     folder: PathBuf,
     output: Output,
     cd_samples: Vec<i16>,

@@ -1,4 +1,4 @@
-//! What the name of the output stands for, found out before anything is written.
+//! Finds out what the name of the output stands for, before anything is written.
 
 use std::ffi::OsStr;
 use std::fs::{self, File, Metadata};

@@ -21,6 +21,8 @@ const MOST_NAME_BYTES: usize = 200;
 /// How many names are tried: a killed process with the same number may have left its file.
 const MOST_NAMES: u32 = 100;
 
+const FORBIDDEN: &str = "no new file may be created in its folder";
+
 impl Temporary {
     /// Creates the file with the owner and the mode of the file that it will replace.
     pub fn create(target: &Path, old: Option<&Metadata>) -> io::Result<(Temporary, File)> {
@@ -62,6 +64,7 @@ fn create_named(target: &Path, private: bool) -> io::Result<(File, Temporary)> {
                 return Ok((file, Temporary { path, identity, placed: false }));
             }
             Err(error) if error.kind() == io::ErrorKind::AlreadyExists => {}
+            Err(error) if error.kind() == io::ErrorKind::PermissionDenied => return Err(io::Error::other(FORBIDDEN)),
             Err(error) => return Err(error),
         }
     }

@@ -1,4 +1,4 @@
-//! A signal that ends a run removes the temporary file, tells what is with the output, and kills the program.
+//! A signal that ends a run removes the temporary file, tells what became of the output, and kills the program.
 
 use std::ffi::{c_char, c_int, c_void, CString};
 use std::io::{self, IsTerminal};

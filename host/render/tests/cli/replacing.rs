@@ -124,6 +124,25 @@ fn a_forbidden_file_is_not_replaced() {
 }
 
 #[test]
+fn a_forbidden_folder_gets_no_file() {
+    let folder = Folder::new("forbidden-folder");
+    if folder.belongs_to_root() {
+        return;
+    }
+    folder.make_folder("sounds");
+    let earlier = folder.render_earlier("sounds/out.wav");
+    folder.write("s.txt", SILENCE);
+    folder.set_mode("sounds", 0o555);
+    let ran = folder.render(&["s.txt", "sounds/out.wav"]);
+    folder.set_mode("sounds", 0o755);
+    ran.is(
+        4,
+        "cannot write sounds/out.wav: no new file may be created in its folder\nsounds/out.wav is as it was before\n",
+    );
+    assert_eq!(folder.read("sounds/out.wav"), earlier);
+}
+
+#[test]
 fn a_full_disk_leaves_what_was_before() {
     let folder = Folder::new("full");
     let earlier = folder.render_earlier("out.wav");
