@@ -41,7 +41,7 @@ it was before. render never replaces a file that is no WAV file, nor one that it
 devices and FIFOs get the sound while it is rendered, with a header for unknown length; a file holds up to 6
 hours and 45 minutes. If a CD file ends before its header says so, render reports it and plays silence.
 
-Exit status, the sum of what applies:
+Exit status, the sum of what applies (0 if nothing does):
   1  the sound may rest on memory that nobody loaded
   2  lines were bad or refused; the others are rendered
   4  failed: wrong usage, or a file that cannot be read or written; the file OUT is as it was before

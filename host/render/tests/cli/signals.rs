@@ -78,13 +78,15 @@ fn an_interrupted_stream_is_incomplete() {
 #[test]
 fn a_run_that_waits_for_a_fifo_is_interrupted() {
     let folder = Folder::new("signal-fifo");
-    assert!(Command::new("mkfifo").arg(folder.path("f")).status().unwrap().success());
-    folder.write("s.txt", "t 1\n");
-    let child = begin(&mut folder.command(&["s.txt", "f"]), "");
-    thread::sleep(Duration::from_millis(200));
+    for name in ["script", "out"] {
+        assert!(Command::new("mkfifo").arg(folder.path(name)).status().unwrap().success());
+    }
+    let child = begin(&mut folder.command(&["script", "out"]), "");
+    let writer = fs::File::options().write(true).open(folder.path("script")).unwrap(); // waits until the run opens it
     send(SIGINT, &child);
     let ran = ran(child.wait_with_output().unwrap());
     assert_eq!((ran.signal, ran.said.as_str()), (Some(SIGINT), "interrupted; the output is as it was before\n"));
+    drop(writer);
 }
 
 #[test]
