@@ -112,14 +112,14 @@ impl<'a> Rendering<'a> {
         while pairs_left > 0 {
             let pairs = pairs_left.min(MOST_PAIRS);
             self.play_cd(pairs)?;
-            let samples = &mut self.samples[..2 * pairs];
-            let ran = self.spu.run(&self.cd_samples[..2 * pairs], samples);
-            if let Ok(ran) = ran {
-                self.report_doubt(ran.doubt);
-                self.output.write(&self.samples[..2 * pairs])?;
-                self.console.progress(self.output.pairs());
+            match self.spu.run(&self.cd_samples[..2 * pairs], &mut self.samples[..2 * pairs]) {
+                Ok(ran) => {
+                    self.report_doubt(ran.doubt);
+                    self.output.write(&self.samples[..2 * pairs])?;
+                    self.console.progress(self.output.pairs());
+                }
+                refused => self.report_refusal(refused),
             }
-            self.report_refusal(ran);
             pairs_left -= pairs;
         }
         Ok(())
