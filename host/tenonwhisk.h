@@ -12,7 +12,7 @@
  * exception: for a size other than the two, tenonwhisk_make returns 1 and still writes the state for 65,536.
  *
  * Saved states. A state is plain bytes: copy it, save it, send it elsewhere, with RAM and marks beside it. Its first
- * four bytes name its layout (docs/CONTRACTS.md, image). A library with another layout refuses it with 2; it never
+ * four bytes name its layout (docs/STATE.md). A library with another layout refuses it with 2; it never
  * misreads it.
  *
  * Threads. The library has no variables of its own: it allocates nothing and keeps nothing between calls. Calls on
