@@ -7,8 +7,8 @@
 //! - The program reports a line that is bad or refused, and leaves it out. It also reports the first tick from which the
 //!   sound may rest on memory that nobody loaded.
 //! - The sound goes to a temporary file beside the target, which takes the target's place when it is whole. So a run that
-//!   fails or is interrupted leaves what was there before. The program never replaces a file that is no WAV file, nor one
-//!   that it also reads.
+//!   fails or is interrupted leaves what was there before. The program never replaces a file that is not a WAV file, nor
+//!   one that it also reads.
 //! - Standard output, devices and FIFOs get the sound while it is rendered.
 //! - The exit status is a sum: 1 the sound is in doubt, 2 lines were bad or refused, 4 failed.
 //!

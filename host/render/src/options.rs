@@ -37,9 +37,10 @@ render reports a line that is bad or refused by its number, and leaves it out. I
 from which the sound may rest on memory that nobody loaded.
 
 render replaces the file OUT only when the sound is whole. A run that fails or is interrupted leaves OUT as
-it was before. render never replaces a file that is no WAV file, nor one that it also reads. Standard output,
-devices and FIFOs get the sound while it is rendered, with a header for unknown length; a file holds up to 6
-hours and 45 minutes. If a CD file ends before its header says so, render reports it and plays silence.
+it was before. render never replaces a file that is not a WAV file, nor one that it also reads. Standard
+output, devices and FIFOs get the sound while it is rendered, with a header for unknown length; a file holds
+up to 6 hours and 45 minutes. If a CD file ends before its header says so, render reports it and plays
+silence.
 
 Exit status, the sum of what applies (0 if nothing does):
   1  the sound may rest on memory that nobody loaded

@@ -58,7 +58,7 @@ impl Target {
         Ok(Target { name: shown, identity, kind })
     }
 
-    /// Refuses a file that may not be written, and one that has content but is no WAV file: the two names are easily
+    /// Refuses a file that may not be written, and one that has content but is not a WAV file: the two names are easily
     /// exchanged.
     pub fn check_replaceable(&self) -> Result<(), Failure> {
         let Kind::File { path, old: Some(_) } = &self.kind else { return Ok(()) };
@@ -67,7 +67,7 @@ impl Target {
         if beginning.is_empty() || wav::is_wav(&beginning) {
             return Ok(());
         }
-        Err(Failure::new(format!("{name} is no WAV file, and render replaces only WAV files; nothing was written")))
+        Err(Failure::new(format!("{name} is not a WAV file, and render replaces only WAV files; nothing was written")))
     }
 }
 

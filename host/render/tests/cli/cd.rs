@@ -102,7 +102,7 @@ fn another_file_is_refused() {
     for (cd, words) in [
         ("missing.wav", "cannot read missing.wav: No such file or directory"),
         ("folder", "cannot read folder: Is a directory"),
-        ("words.wav", "words.wav is no WAV file; a WAV file of 16 bits, stereo, 44100 Hz, PCM is wanted"),
+        ("words.wav", "words.wav is not a WAV file; a WAV file of 16 bits, stereo, 44100 Hz, PCM is wanted"),
         ("mono.wav", "mono.wav is a WAV file of 8 bits, mono, 22050 Hz, PCM; 16 bits, stereo, 44100 Hz, PCM is wanted"),
     ] {
         folder.render(&["s.txt", "out.wav", "--cd", cd]).is(4, &format!("{words}\nout.wav was not written\n"));

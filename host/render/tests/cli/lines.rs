@@ -25,7 +25,8 @@ fn bad_and_refused_lines_are_told_and_left_out() {
         2,
         "line 2: bad line (w OFFSET VALUE, s V .., t N, l ADDRESS FILE or # is expected)\n\
          line 3: refused (5): this register, or this value of it, is not carried\n\
-         line 4: refused (6): another transfer mode is applied (SPUCNT bits 5-4 act from the next tick on)\n\
+         line 4: refused (6): another transfer mode is applied (SPUCNT bits 5-4 act from the next tick on); \
+         mode 1 or 2 moves inward, 3 outward\n\
          line 5: bad line (w OFFSET VALUE is expected, each hex, 1 to 4 digits)\n\
          line 6: refused (4): this register can only be read\n\
          line 7: refused (3): there is no register at this offset\n\

@@ -90,7 +90,7 @@ fn a_file_that_is_no_wav_file_is_not_replaced() {
         folder.write("song.txt", content);
         folder.render(&["s.wav", "song.txt"]).is(
             4,
-            "song.txt is no WAV file, and render replaces only WAV files; nothing was written\n\
+            "song.txt is not a WAV file, and render replaces only WAV files; nothing was written\n\
              song.txt is as it was before\n",
         );
         assert_eq!(folder.read("song.txt"), content.as_bytes());
