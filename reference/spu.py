@@ -1,8 +1,8 @@
 """The sound chip, written rule by rule from the papers, in unbounded integers.
 
 ">>" and "//" round down.  An address counts bytes; a unit is 8 bytes.  Sentences in
-quotation marks are those of the scope paper that the code under them carries; "R-n"
-names the reading of an ambiguous place.
+quotation marks are those of the scope paper that the code under them carries; where a
+place could be read otherwise, docs/DECISIONS.md says how it is read.
 """
 
 SIZES = (65536, 524288)
@@ -190,7 +190,7 @@ class Voice:
         self.level = 0              # the envelope
         self.wait = 0
         self.address = 0            # bytes
-        self.repeat = 0             # a unit, as a register holds it (R-30)
+        self.repeat = 0             # a unit, as docs/DECISIONS.md, Voice, reads it
         self.counter = 0
         self.index = 0
         self.samples = [0] * 31     # the three before the block, then its 28
@@ -327,7 +327,8 @@ class Spu(SoundRam):
         self.tick_number = 0
 
     def reset(self):
-        """"Reset gives back the state as made"; RAM and marks stay (R-38b)."""
+        """"Reset gives back the state as made"; RAM and marks stay, as docs/DECISIONS.md, Calls,
+        reads it."""
         number = self.refusal()
         if number == 0:
             self.fresh()
@@ -492,7 +493,8 @@ class Spu(SoundRam):
                 self.timer += 0x20000 >> (control >> 10 & 15)
 
     def voices_step(self):
-        """"Voices 0 to 23", one after the other (R-44); the 24 amplitudes."""
+        """"Voices 0 to 23", one after the other, as docs/DECISIONS.md, Voice, reads it; the 24
+        amplitudes."""
         reg, pmon, non = self.reg, self.flags(0x190), self.flags(0x194)
         amplitudes = [0] * 24
         for n, voice in enumerate(self.voices):
