@@ -187,6 +187,15 @@ wrong("transfer_same_value", "Writing 1A6h with the same value leaves the transf
 wrong("transfer_write_ignored", "Writing 1A6h leaves the transfer address.",
       "self.transfer_address = unit_address(value, self.L)", "pass")
 
+wrong("control_reads_applied", "SPUCNT's bits 5-0 read back as applied.",
+      "return 0, self.reg[offset]\n", "return 0, self.reg[offset] & 0xFFC0 | self.applied if offset == 0x1AA else self.reg[offset]\n")
+wrong("main_volume_read_late", "1B8h and 1BAh read the main volume of the last tick.",
+      "return 0, volume(self.reg[offset - 0x38]) & 0xFFFF", "return 0, volume(self.__dict__.get(\"main\", (0, 0))[offset == 0x1BA]) & 0xFFFF",
+      "        self.begin()\n        before, reg =", "        self.begin()\n        self.main = self.reg[0x180], self.reg[0x182]\n        before, reg =")
+wrong("endx_read_clears", "Reading ENDX clears it.",
+      "            return 0, sum(voice.ended << k for k, voice in enumerate(half))",
+      "            seen = sum(voice.ended << k for k, voice in enumerate(half))\n            for voice in half:\n                voice.ended = False\n            return 0, seen")
+
 # ---- Fresh state and reset
 
 wrong("fresh_transfer_type", "1ACh is 0 in a fresh state.", "self.reg[0x1AC] = 4", "self.reg[0x1AC] = 0")
@@ -329,6 +338,8 @@ wrong("envelope_before_amplitude", "The amplitude has the envelope after this ti
 wrong("amplitude_to_zero", "The amplitude is rounded towards zero.", "amplitude = times(heard, self.level) ", "amplitude = int(heard * self.level / 32768) ")
 wrong("amplitude_by_7fff", "The amplitude is divided by 7FFFh.", "amplitude = times(heard, self.level) ", "amplitude = heard * self.level // 0x7FFF ")
 
+wrong("registers_of_16_voices", "Voices 16 to 23 use the registers of voices 0 to 7.", "at = 16 * n\n", "at = 16 * (n % 16)\n")
+
 # ---- Pitch
 
 wrong("pitch_limit_3fff", "A pitch above 3FFFh steps 3FFFh.", "return 0x4000 if step > 0x3FFF else step", "return min(step, 0x3FFF)")
@@ -363,6 +374,8 @@ wrong("modulation_by_idle", "An Idle voice below stops the voice.", "below = amp
 wrong("modulation_without_envelope", "A voice is modulated by the sample below without its envelope.",
       "amplitude = times(heard, self.level) ", "self.heard, amplitude = heard, times(heard, self.level) ",
       "below = amplitudes[n - 1] if n", "below = self.voices[n - 1].__dict__.get(\"heard\", 0) if n")
+wrong("modulation_not_by_noise", "A voice that plays noise modulates by 0.",
+      "below = amplitudes[n - 1] if n", "below = (0 if non >> n - 1 & 1 else amplitudes[n - 1]) if n")
 wrong("pmon_is_non", "PMON and NON change places.", "self.flags(0x190), self.flags(0x194)", "self.flags(0x194), self.flags(0x190)")
 wrong("flags_upper_half_lost", "Flags are of voices 0 to 15.", "return self.reg[offset] | self.reg[offset + 2] << 16", "return self.reg[offset]")
 wrong("flags_halves_swapped", "The first flag register is of voices 16 to 23.",
@@ -461,6 +474,17 @@ wrong("mute_keeps_level", "End+Mute goes to Off with the level as it is.", "    
 wrong("mute_to_idle", "End+Mute goes to Idle.", "                self.silence(OFF)", "                self.silence(IDLE)")
 wrong("mute_keeps_phase", "End+Mute sets the level to 0 and leaves the phase.", "                self.silence(OFF)", "                self.level = 0")
 
+wrong("mute_at_once", "The tick that meets End+Mute is silent.", "                self.load(memory)\n        return amplitude\n",
+      "                self.load(memory)\n                amplitude = 0 if self.phase == OFF else amplitude\n        return amplitude\n")
+wrong("end_to_start", "A block's end goes to the start of key on.",
+      "            self.address = unit_address(self.repeat, L)\n", "            self.address = unit_address(self.start, L)\n", "        self.repeat = start\n", "        self.repeat = self.start = start\n")
+wrong("end_to_start_register", "A block's end goes to the start register as it stands.",
+      "            self.address = unit_address(self.repeat, L)\n", "            self.address = unit_address(self.start, L)\n",
+      "            if voice.phase != IDLE:\n", "            voice.start = reg[16 * n + 6]\n            if voice.phase != IDLE:\n")
+wrong("end_repeat_of_load", "A block's end goes to repeat as it was when the block was loaded.",
+      "            self.address = unit_address(self.repeat, L)\n", "            self.address = unit_address(self.then, L)\n", "            self.repeat = self.address // 8\n",
+      "            self.repeat = self.address // 8\n        self.then = self.repeat\n")
+
 # ---- Key on, key off, SPUCNT bit 15
 
 wrong("key_on_needs_no_bit_15", "Key on starts voices without SPUCNT bit 15.", "elif self.reg[0x1AA] & 0x8000:  ", "else:  ")
@@ -498,6 +522,15 @@ wrong("key_off_idle", "Key off sends an Idle voice to Release.", "if self.phase 
 wrong("key_off_keeps_wait", "Key off keeps the wait that runs.", "            self.enter(RELEASE, low, high)", "            self.phase = RELEASE")
 wrong("key_off_mutes", "Key off goes to Off at once.", "            self.enter(RELEASE, low, high)", "            self.silence(OFF)")
 wrong("key_off_off_at_0", "Key off at level 0 goes to Idle at once.", "            self.enter(RELEASE, low, high)", "            self.enter(RELEASE if self.level else IDLE, low, high)")
+wrong("endx_cleared_by_key_off", "Key off clears ENDX.", "            self.enter(RELEASE, low, high)", "            self.ended = False\n            self.enter(RELEASE, low, high)")
+wrong("key_on_in_tick", "Key on acts in the next tick.",
+      "                    self.voices[n].key_on(start, self.L, low, high)", "                    self.__dict__.setdefault(\"keyed\", []).append(n)",
+      "        self.begin()\n        before, reg =",
+      "        for n in self.__dict__.pop(\"keyed\", ()):\n            self.voices[n].key_on(self.reg[16 * n + 6], self.L, *(self.reg[16 * n + k] for k in (8, 10)))\n        self.begin()\n        before, reg =")
+wrong("key_off_in_tick", "Key off acts in the next tick.",
+      "                    self.voices[n].key_off(low, high)", "                    self.__dict__.setdefault(\"released\", []).append(n)",
+      "        self.begin()\n        before, reg =",
+      "        for n in self.__dict__.pop(\"released\", ()):\n            self.voices[n].key_off(*(self.reg[16 * n + k] for k in (8, 10)))\n        self.begin()\n        before, reg =")
 wrong("stop_to_off", "SPUCNT bit 15 clear makes all voices Off.", "                voice.silence(IDLE)", "                voice.silence(OFF)")
 wrong("stop_to_release", "SPUCNT bit 15 clear sends all voices to Release.", "                voice.silence(IDLE)", "                voice.key_off(0, 0)")
 wrong("stop_fresh", "SPUCNT bit 15 clear makes all voices fresh.", "                voice.silence(IDLE)", "                voice.__init__()")
@@ -575,7 +608,6 @@ wrong("phases_before_move", "Phases are tested before the level moves.",
       "            self.level = envelope_move(self.phase, self.level, low, high)\n            self.enter(next_phase(self.phase, self.level, low), low, high)",
       "            after = next_phase(self.phase, self.level, low)\n            self.level = envelope_move(after, self.level, low, high)\n            self.enter(after, low, high)")
 wrong("release_to_idle", "Release at 0 goes to Idle.", "        return OFF\n", "        return IDLE\n")
-wrong("release_never_off", "Release at 0 stays in Release.", "    if phase == RELEASE and level == 0:", "    if False:")
 wrong("wait_of_old_phase", "After a change of phase the wait is that of the phase before.", "            self.enter(next_phase(self.phase, self.level, low), low, high)",
       "            before = self.phase\n            self.enter(next_phase(self.phase, self.level, low), low, high)\n"
       "            if self.phase != OFF:\n                self.wait = envelope_cycles(before, self.level, low, high)")
@@ -617,6 +649,8 @@ wrong("mute_leaves_reverb", "SPUCNT bit 14 clear leaves the reverb's output.",
 wrong("mute_cd", "SPUCNT bit 14 clear mutes CD too.", "        if control & 1:\n            total += cd\n", "        if control & 0x4001 == 0x4001:\n            total += cd\n")
 wrong("cd_always", "CD joins without bit 0.", "        if control & 1:\n            total += cd\n", "        total += cd\n")
 wrong("cd_by_bit_1", "CD joins by bit 1.", "        if control & 1:\n            total += cd\n", "        if control & 2:\n            total += cd\n")
+wrong("cd_volume_of_external", "CD has the volumes of external audio.",
+      "cd = (times(cd_left, s16(reg[0x1B0])), times(cd_right, s16(reg[0x1B2])))", "cd = (times(cd_left, s16(reg[0x1B4])), times(cd_right, s16(reg[0x1B6])))")
 wrong("cd_without_volume", "CD joins before its volume.", "cd = (times(cd_left, s16(reg[0x1B0])), times(cd_right, s16(reg[0x1B2])))", "cd = (cd_left, cd_right)")
 wrong("cd_doubled_volume", "A CD volume is twice its low 15 bits.",
       "cd = (times(cd_left, s16(reg[0x1B0])), times(cd_right, s16(reg[0x1B2])))", "cd = (times(cd_left, volume(reg[0x1B0])), times(cd_right, volume(reg[0x1B2])))")
@@ -661,6 +695,8 @@ wrong("capture_after_reverb", "Capture writes after the reverb's turn.",
 wrong("capture_before_voices", "Capture of CD writes before the voices load.",
       "        self.noise_step()\n        amplitudes = self.voices_step()\n",
       "        self.noise_step()\n        self.store(self.capture_place, cd_left)\n        self.store(0x400 + self.capture_place, cd_right)\n        amplitudes = self.voices_step()\n")
+wrong("capture_restarts", "SPUCNT bit 15 clear sets the capture place to 0.",
+      "        if new & 0x8000 == 0:  ", "        if new & 0x8000 == 0:\n            self.capture_place = 0\n        if new & 0x8000 == 0:  ")
 wrong("capture_unsigned", "Capture writes the low bytes alone.", "self.store(0x400 * k + self.capture_place, value)", "self.store(0x400 * k + self.capture_place, value & 0xFF)")
 
 # ---- Reverb: turns, place, input and output
@@ -679,6 +715,7 @@ wrong("reverb_input_saturated_apart", "Voices and CD are saturated apart in the 
       "taken = saturate(echoing + (cd if self.reg[0x1AA] & 5 == 5 else 0))", "taken = saturate(echoing) + (saturate(cd) if self.reg[0x1AA] & 5 == 5 else 0)")
 wrong("reverb_cd_by_bit_2", "CD joins the reverb's input by bit 2 alone.", "self.reg[0x1AA] & 5 == 5", "self.reg[0x1AA] & 4")
 wrong("reverb_cd_by_bit_0", "CD joins the reverb's input by bit 0 alone.", "self.reg[0x1AA] & 5 == 5", "self.reg[0x1AA] & 1")
+wrong("reverb_cd_by_bit_3", "CD joins the reverb's input by bits 0 and 3.", "self.reg[0x1AA] & 5 == 5", "self.reg[0x1AA] & 9 == 9")
 wrong("reverb_cd_never", "CD never joins the reverb's input.", "self.reg[0x1AA] & 5 == 5", "False")
 wrong("reverb_cd_raw", "CD joins the reverb's input before its volume.", "        self.reverb_turn(sums[self.turn][1], cd[self.turn])\n", "        self.reverb_turn(sums[self.turn][1], (cd_left, cd_right)[self.turn])\n")
 wrong("reverb_cd_other_side", "The reverb's input has CD of the other side.", "self.reverb_turn(sums[self.turn][1], cd[self.turn])", "self.reverb_turn(sums[self.turn][1], cd[1 - self.turn])")
@@ -699,6 +736,8 @@ wrong("reverb_volume_at_mix", "The output volume is the one of the mix.", "total
 wrong("reverb_held_swapped", "Held outputs change sides.", "total += saturate(voices) + self.held[side]", "total += saturate(voices) + self.held[1 - side]")
 wrong("reverb_base_clears_held", "Writing 1A2h clears the held outputs.", "            self.reverb_place = unit_address(value, self.L)\n", "            self.reverb_place = unit_address(value, self.L)\n            self.held = [0, 0]\n")
 wrong("reverb_base_turns_left", "Writing 1A2h gives left the next turn.", "            self.reverb_place = unit_address(value, self.L)\n", "            self.reverb_place = unit_address(value, self.L)\n            self.turn = 0\n")
+wrong("reverb_restarts", "Setting SPUCNT bit 7 sets the place to the base.",
+      "        if new & 0x8000 == 0:  ", "        if new & ~old & 0x80:\n            self.reverb_place = unit_address(self.reg[0x1A2], self.L)\n        if new & 0x8000 == 0:  ")
 wrong("reverb_off_silent", "SPUCNT bit 7 clear silences the reverb's output.", "return saturate(times(out, v_out))", "return saturate(times(out, v_out)) if writes else 0")
 wrong("reverb_out_doubled", "An output volume is twice its low 15 bits.", "v_out = s16(reg[0x184 + 2 * side])", "v_out = volume(reg[0x184 + 2 * side])")
 wrong("reverb_out_unsigned", "An output volume is unsigned.", "v_out = s16(reg[0x184 + 2 * side])", "v_out = reg[0x184 + 2 * side]")
@@ -824,6 +863,10 @@ wrong("irq_not_by_block_wrap", "A block load's part past L is no access.",
       "        halfwords = [self.fetch((address + 2 * k) % self.L) for k in range(8)]\n",
       "        watched = self.watched\n        halfwords = []\n        for k in range(8):\n            self.watched = watched if address + 2 * k < self.L else None\n"
       "            halfwords.append(self.fetch((address + 2 * k) % self.L))\n        self.watched = watched\n")
+wrong("irq_of_aligned_blocks", "A block at 8 past a multiple of 16 accesses its first halfword alone.",
+      "        halfwords = [self.fetch((address + 2 * k) % self.L) for k in range(8)]\n",
+      "        watched = self.watched\n        halfwords = []\n        for k in range(8):\n            halfwords.append(self.fetch((address + 2 * k) % self.L))\n"
+      "            self.watched = None if address % 16 else watched\n        self.watched = watched\n")
 wrong("irq_not_by_blocks", "Block loads are no accesses.", "        halfwords = [self.fetch((address + 2 * k) % self.L) for k in range(8)]\n",
       "        watched, self.watched = self.watched, None\n        halfwords = [self.fetch((address + 2 * k) % self.L) for k in range(8)]\n        self.watched = watched\n")
 wrong("irq_not_by_off", "An Off voice's loads are no accesses.", "        block = memory.fetch_block(self.address)\n",
@@ -870,6 +913,12 @@ wrong("doubt_not_by_blocks", "Block loads are not counted.", "self.fetch((addres
 wrong("doubt_first_of_block", "The first halfword of a block is counted alone.", "self.fetch((address + 2 * k) % self.L) for", "self.fetch((address + 2 * k) % self.L, k == 0) for")
 wrong("doubt_header_not", "The first halfword of a block is not counted.", "self.fetch((address + 2 * k) % self.L) for", "self.fetch((address + 2 * k) % self.L, k > 0) for")
 wrong("doubt_7_of_block", "The last halfword of a block is not counted.", "self.fetch((address + 2 * k) % self.L) for", "self.fetch((address + 2 * k) % self.L, k < 7) for")
+wrong("doubt_by_first_byte", "A block is marked if the first byte of its marks is FFh.",
+      "        halfwords = [self.fetch((address + 2 * k) % self.L) for k in range(8)]\n",
+      "        self.doubt |= self.marks[address >> 4] != 0xFF\n        halfwords = [self.fetch((address + 2 * k) % self.L, False) for k in range(8)]\n")
+wrong("doubt_by_any_mark", "A block is marked if the first byte of its marks is not 0.",
+      "        halfwords = [self.fetch((address + 2 * k) % self.L) for k in range(8)]\n",
+      "        self.doubt |= self.marks[address >> 4] == 0\n        halfwords = [self.fetch((address + 2 * k) % self.L, False) for k in range(8)]\n")
 wrong("doubt_not_by_off", "An Off voice's loads are not counted.", "        block = memory.fetch_block(self.address)\n",
       "        doubt = memory.doubt\n        block = memory.fetch_block(self.address)\n        memory.doubt = doubt if self.phase == OFF else memory.doubt\n")
 wrong("doubt_not_by_outward", "Outward transfers are not counted.", "self.fetch(self.next_transfer_address())", "self.fetch(self.next_transfer_address(), False)")
@@ -929,6 +978,8 @@ wrong("transfer_not_wrapped", "The transfer address stays at L-2.", "self.transf
 wrong("transfer_starts_anew", "Each transfer begins at 1A6h.", "        self.begin()\n        for value in values:", "        self.begin()\n        self.transfer_address = unit_address(self.reg[0x1A6], self.L)\n        for value in values:")
 wrong("outward_starts_anew", "Each outward transfer begins at 1A6h.", "        self.begin()\n        for k in range(len(buffer)):",
       "        self.begin()\n        self.transfer_address = unit_address(self.reg[0x1A6], self.L)\n        for k in range(len(buffer)):")
+wrong("transfer_restarts", "An SPUCNT write sets the transfer address to 1A6h.",
+      "            self.control_write(old, value)", "            self.control_write(old, value)\n            self.transfer_address = unit_address(self.reg[0x1A6], self.L)")
 wrong("transfer_by_units", "The transfer address moves 8 a halfword.", "self.transfer_address = (address + 2) % self.L", "self.transfer_address = (address + 8) % self.L")
 wrong("transfer_register_moves", "1A6h moves by whole units with transfers.", "self.transfer_address = (address + 2) % self.L", "self.transfer_address = (address + 2) % self.L\n        self.reg[0x1A6] = self.transfer_address // 8")
 wrong("refused_transfer_moves_address", "An inward transfer refused by 7 moves the address.", "        if number:\n            return number, 0, 0, 0\n        self.begin()\n        for value in values:",
@@ -956,6 +1007,9 @@ wrong("float_swapped", "The floats change sides.", "left / 32768, right / 32768,
 wrong("float_whole", "The floats are not divided.", "left / 32768, right / 32768,", "float(left), float(right),")
 wrong("float_minus_0", "0 becomes -0.", "left / 32768, right / 32768,", "left / 32768 or -0.0, right / 32768 or -0.0,")
 wrong("float_no_cd", "A tick with floats hears no CD.", "number, before, left, right, irq, doubt = self.tick(cd_left, cd_right)", "number, before, left, right, irq, doubt = self.tick(0, 0)")
+
+wrong("float_not_counted", "A tick with floats is not counted.", "number, before, left, right, irq, doubt = self.tick(cd_left, cd_right)",
+      "number, before, left, right, irq, doubt = self.tick(cd_left, cd_right)\n        self.tick_number = before")
 
 # ---- Lines of both programs
 
@@ -1062,6 +1116,7 @@ wrong("replay_refused_read_shown", "A refused read shows FFFF.", "    yield \"r 
 
 # ---- Wrong references that no line can tell apart
 
+RELEASED = "Release at level 0 differs from Off in the state alone: both are silent, read, move, and leave key off without effect"
 PROGRAM_LENDS = "the programs lend sound RAM and marks of the right lengths"
 PROGRAM_STATE = "the programs' states are those that the calls make, and all of these are in range"
 wrong("number_1_missing", "RAM or marks of another length are taken.",
@@ -1079,7 +1134,10 @@ wrong("key_off_needs_bit_15", "Key off acts with SPUCNT bit 15 set alone.", "   
 wrong("stop_on_change_only", "SPUCNT bit 15 makes the voices Idle where it changes from set to clear.", "if new & 0x8000 == 0:  ", "if old & 0x8000 and new & 0x8000 == 0:  ",
       reason="without bit 15 every voice of a state that the calls make is Idle")
 wrong("mute_to_release", "End+Mute goes to Release at level 0.", "                self.silence(OFF)", "                self.level = 0\n                self.phase, self.wait = RELEASE, 1",
-      reason="Release at level 0 differs from Off in the state alone: both are silent, read, move, and leave key off without effect")
+      reason=RELEASED)
+wrong("release_never_off", "Release at 0 stays in Release.", "    if phase == RELEASE and level == 0:", "    if False:", reason=RELEASED)
+wrong("wait_kept_when_idle", "Idle and Off keep the wait that ran.", "        self.wait = (0 if phase in (IDLE, OFF)", "        self.wait = (self.wait if phase in (IDLE, OFF)",
+      reason="no call shows a wait, and Idle and Off do not use it")
 wrong("tick_number_stops", "The tick number stays at FFFFFFFFh.", "self.tick_number = (before + 1) % 0x100000000 ", "self.tick_number = min(before + 1, 0xFFFFFFFF) ",
       reason="it takes 4,294,967,295 ticks")
 wrong("fresh_timer_1fffc", "The noise timer is 1FFFCh in a fresh state.", "self.noise, self.timer = 0, 0x20000", "self.noise, self.timer = 0, 0x1FFFC",
