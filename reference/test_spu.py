@@ -394,7 +394,7 @@ class Programs(unittest.TestCase):
             "o 6 0 0 0 : A5A5 A5A5", "f 0 1 00000000 00000000 0 0 1", "v 0 16 " + "00" * 16,
             "v 8 0 ", "bad line", "ram 00000 00000000", "bad line", "marks 00000 11000000",
             "bad line", "ok", "ram 0FFFE 0A0A", "marks 0FFF0 00000000", "bad line", "reset 0",
-            "bad line", "r 0 0000", "bad line", "bad line"])
+            "bad line", "r 0 0000", "bad line", "bad line", "end clear"])
 
 
 if __name__ == "__main__":
