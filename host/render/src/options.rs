@@ -29,7 +29,7 @@ Lines of a script:
   l ADDRESS FILE  load a file's bytes to sound RAM at an address (hex, 1 to 5 digits, a multiple of 8)
   # ..            a comment; blank lines are skipped too
 
-Spaces, tabs and CR part the fields. FILE is the rest of the line, so its name may hold spaces. A relative
+Spaces, tabs and CR separate fields. FILE is the rest of the line, so its name may hold spaces. A relative
 FILE is looked for beside the script, or in the current folder if the script is standard input or a pipe. A
 load takes no time, works whatever SPUCNT says, and leaves all registers as they are.
 
