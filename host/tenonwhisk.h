@@ -40,7 +40,7 @@
 extern "C" {
 #endif
 
-#define TENONWHISK_VERSION "0.2.0"
+#define TENONWHISK_VERSION "0.3.0"
 
 /* The length of a state. */
 #define TENONWHISK_STATE_BYTES 2493
@@ -62,7 +62,7 @@ enum tenonwhisk_number {
     TENONWHISK_MODE = 6,        /* another transfer mode is applied */
     TENONWHISK_COUNT = 7,       /* a transfer of no halfwords, or of more than 32 */
     TENONWHISK_ADDRESS = 8,     /* the block address is not a multiple of 8, or is beyond L-16 */
-    TENONWHISK_BUFFERS = 9      /* the buffers of a run do not hold whole pairs, or have different lengths */
+    TENONWHISK_BUFFERS = 25     /* the buffers of a run do not hold whole pairs, or have different lengths */
 };
 
 /* Returns a number's meaning in plain words. */
@@ -194,12 +194,12 @@ static inline const int16_t *tenonwhisk_no_cd(void)
 }
 
 /* Makes a tick for each pair of out (left, right, left, ..). cd holds as many pairs of CD samples, or none: cd_len is
- * out_len, or 0 for no CD. Without CD, every CD sample is zero. Numbers: 0, 1, 2, 9. */
+ * out_len, or 0 for no CD. Without CD, every CD sample is zero. Numbers: 0, 1, 2, 25. */
 struct tenonwhisk_ran tenonwhisk_run(uint8_t *state, size_t state_len, uint8_t *ram, size_t ram_len, uint8_t *marks,
                                      size_t marks_len, const int16_t *cd, size_t cd_len, int16_t *out, size_t out_len);
 
 /* Does what tenonwhisk_run does. Writes each sample divided by 32768 to floats too: floats_len is out_len. Numbers:
- * 0, 1, 2, 9. */
+ * 0, 1, 2, 25. */
 struct tenonwhisk_ran tenonwhisk_run_floats(uint8_t *state, size_t state_len, uint8_t *ram, size_t ram_len,
                                             uint8_t *marks, size_t marks_len, const int16_t *cd, size_t cd_len,
                                             int16_t *out, size_t out_len, float *floats, size_t floats_len);

@@ -225,7 +225,7 @@ bool is_in_range(const uint8_t *image)
            place >= base && place <= size - 2 && transfer % 2 == 0 && transfer < size;
 }
 
-/* ---- numbers 3 to 9 */
+/* ---- numbers above 2 */
 
 static bool is_listed(uint32_t offset)
 {
@@ -291,12 +291,12 @@ static uint8_t number_of_transfer_out(const struct lent *lent)
 static uint8_t number_of_run(const struct lent *lent)
 {
     size_t count = lent->buffers[SAMPLES].count, cd = lent->buffers[CD].count;
-    return count % 2 == 0 && (cd == count || cd == 0) ? 0 : 9;
+    return count % 2 == 0 && (cd == count || cd == 0) ? 0 : 25;
 }
 
 static uint8_t number_of_run_floats(const struct lent *lent)
 {
-    return lent->buffers[FLOATS].count == lent->buffers[SAMPLES].count ? number_of_run(lent) : 9;
+    return lent->buffers[FLOATS].count == lent->buffers[SAMPLES].count ? number_of_run(lent) : 25;
 }
 
 static uint8_t number_of_view(const struct lent *lent)

@@ -36,7 +36,7 @@ struct call {
     struct outcome (*run)(const struct lent *lent);
     bool takes_ram;
     bool takes_marks;
-    uint8_t (*own_number)(const struct lent *lent); /* for its other arguments and the state: 3 to 9, or 0 */
+    uint8_t (*own_number)(const struct lent *lent); /* for its other arguments and the state: above 2, or 0 */
     uint32_t ticks;                                 /* that it makes with the buffers of lent_make */
 };
 

@@ -106,10 +106,10 @@ module _ (s : State) (ram marks : List ℕ) (cd out : List ℤ) {n : ℕ} (e : n
 
 -- ---- the code's test of the buffers
 
-pub run-9 : (b : Bool) → b ≡ true → 9 ≡ firstOf (test b 9 ∷ [])
+pub run-25 : (b : Bool) → b ≡ true → 25 ≡ firstOf (test b 25 ∷ [])
 unfolding firstOf
-run-9 b e = rw e
+run-25 b e = rw e
 
-pub run-0 : (b : Bool) → b ≡ false → 0 ≡ firstOf (test b 9 ∷ [])
+pub run-0 : (b : Bool) → b ≡ false → 0 ≡ firstOf (test b 25 ∷ [])
 unfolding firstOf
 run-0 b e = rw e

@@ -13,9 +13,9 @@ use Rattle.tick.specs.declared.Pair.{Pair}
 use Rattle.runs.specs.Run.{Run}
 use Rattle.spu.specs.Step.{Call, tick, Answer, written, value, moved, movedOut, pair, floats, made, viewed, Test, test, firstOf, lentTests, outcomeOf}
 
--- 9: the buffer is not of whole pairs, or the CD's is of another length; a CD's buffer of no samples is a silent CD
+-- 25: the buffer is not of whole pairs, or the CD's is of another length; a CD's buffer of no samples is a silent CD
 abbrev pub runTests : ℕ → ℕ → List Test
-runTests cd out = test ((not (eqb cd 0) && not (eqb cd out)) || not (eqb (out % 2) 0)) 9 ∷ []
+runTests cd out = test ((not (eqb cd 0) && not (eqb cd out)) || not (eqb (out % 2) 0)) 25 ∷ []
 
 abbrev silence : Pair
 silence = record { left = pos 0; right = pos 0 }
@@ -89,9 +89,9 @@ pub record Floats : Type 0 where
   pub ran : Outcome
   pub floats : List Float
 
--- 9: also where the floats' buffer is of another length
+-- 25: also where the floats' buffer is of another length
 abbrev pub floatsTests : ℕ → ℕ → List Test
-floatsTests fs out = test (not (eqb fs out)) 9 ∷ []
+floatsTests fs out = test (not (eqb fs out)) 25 ∷ []
 
 unfoldable pub ranFloatsOf : State → List ℕ → List ℕ → List ℤ → List ℤ → List Float → Floats
 ranFloatsOf s ram marks cd out fs =

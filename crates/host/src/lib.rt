@@ -13,7 +13,7 @@ pub struct Ran {
     pub state: State,
 }
 
-// 1, 2 or 9, or 0 where none applies, of the lengths of what is lent.
+// 1, 2 or 25, or 0 where none applies, of the lengths of what is lent.
 pub fn run_number(s: State, ram: usize, marks: usize, cd: usize, out: usize) -> u8
     ensures { λ r. ⌜ r ≡ firstOf (lentTests s ram marks (runTests cd out)) ⌝ }
 {
@@ -22,7 +22,7 @@ pub fn run_number(s: State, ram: usize, marks: usize, cd: usize, out: usize) -> 
         return number;
     }
     if ((cd != 0) & (cd != out)) | (out % 2 != 0) {
-        return 9;
+        return 25;
     }
     0
 }

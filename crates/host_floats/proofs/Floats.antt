@@ -37,7 +37,7 @@ first-stays (t ∷ ts) us z = by (t .applies) z (first-stays ts us)
     by true y k = refl
     by false y k = k y
 
-first-goes-on : (a b c : Bool) (us : List Test) → firstOf (test a 1 ∷ test b 2 ∷ test c 9 ∷ []) ≡ 0 → firstOf (test a 1 ∷ test b 2 ∷ test c 9 ∷ us) ≡ firstOf us
+first-goes-on : (a b c : Bool) (us : List Test) → firstOf (test a 1 ∷ test b 2 ∷ test c 25 ∷ []) ≡ 0 → firstOf (test a 1 ∷ test b 2 ∷ test c 25 ∷ us) ≡ firstOf us
 unfolding firstOf
 first-goes-on true b c us e = absurd (omega arith)
 first-goes-on false true c us e = absurd (omega arith)
@@ -55,7 +55,7 @@ module _ (s : State) (ram marks : List ℕ) (cd out : List ℤ) (fs : List Float
     by-floats : firstOf (lentTests s (length ram) (length marks) (runTests (length cd) (length out) ++ floatsTests (length fs) (length out))) ≡ firstOf (floatsTests (length fs) (length out))
     by-floats = first-goes-on _ _ _ _ (sym e ∙ z)
 
-    pub floats-short : (length fs ≡ length out → ⊥) → record { ran = record { number = 9; count = 0; run = startOf s ram marks out 0 }; floats = fs } ≡ ranFloatsOf s ram marks cd out fs
+    pub floats-short : (length fs ≡ length out → ⊥) → record { ran = record { number = 25; count = 0; run = startOf s ram marks out 0 }; floats = fs } ≡ ranFloatsOf s ram marks cd out fs
     unfolding ranFloatsOf numberedOf firstOf
     floats-short d = rw (by-floats, ne-eqb (length fs) (length out) d)
 

@@ -44,7 +44,7 @@ pub fn run_floats(
     if floats.len() != out.len() {
         let state = s;
         return Ran {
-            number: 9,
+            number: 25,
             count: 0,
             irq: 0,
             doubt: 0,

@@ -23,12 +23,12 @@ pub enum Refusal {
     Count = 7,
     /// 8: the block address is not a multiple of 8, or fewer than 16 bytes follow.
     Address = 8,
-    /// 9: the buffers of a run do not hold whole pairs, or have different lengths.
-    Buffers = 9,
+    /// 25: the buffers of a run do not hold whole pairs, or have different lengths.
+    Buffers = 25,
 }
 
 impl Refusal {
-    /// The number that the C interface returns, 1 to 9.
+    /// The number that the C interface returns.
     pub fn number(self) -> u8 {
         self as u8
     }
@@ -45,8 +45,8 @@ impl Refusal {
             6 => Refusal::Mode,
             7 => Refusal::Count,
             8 => Refusal::Address,
-            9 => Refusal::Buffers,
-            _ => unreachable!("the library gives no number above 9"),
+            25 => Refusal::Buffers,
+            _ => unreachable!("the library gives no other number"),
         })
     }
 }

@@ -292,7 +292,7 @@ fn bytes_loaded_past_the_chip() {
 
 #[test]
 fn refusals_have_numbers_and_words() {
-    assert_eq!((Refusal::Memory.number(), Refusal::Buffers.number()), (1, 9));
+    assert_eq!((Refusal::Memory.number(), Refusal::Buffers.number()), (1, 25));
     let error: Box<dyn std::error::Error> = Box::new(Refusal::Count);
     assert_eq!(error.to_string(), "a transfer moves 1 to 32 halfwords");
     assert_eq!(Refusal::NotCarried.to_string(), "this register, or this value of it, is not carried");

@@ -1,6 +1,6 @@
 use borrow.Author.Needs.{needs}
 use Rattle.spu.proofs.Numbers.{lent-refused, lent-passed}
-use Rattle.host.proofs.Runs.{run-9, run-0}
+use Rattle.host.proofs.Runs.{run-25, run-0}
 use Rattle.host.proofs.run_number.Statement.{statement}
 use Rattle.host.proofs.run_number.Tie as tie
 
@@ -18,7 +18,7 @@ returns-2 c =
     let d = c .before in
     let a = d .before in
     let b = a .before in
-    lent-passed (b .args .s) _ _ _ (a .lent-number .ensures) (d .if1 .left) (run-9 _ (c .if2 .taken))
+    lent-passed (b .args .s) _ _ _ (a .lent-number .ensures) (d .if1 .left) (run-25 _ (c .if2 .taken))
 
 returns-3 : tie.Need-returns-3
 returns-3 c =
