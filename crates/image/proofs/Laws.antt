@@ -11,6 +11,7 @@ use lib.ListN.{length, getD, take, set}
 use lib.Seq.{take-all, take-suc-set}
 use Rattle.fixed.specs.Signed.{signed}
 use Rattle.fixed.proofs.Bools.{and-first}
+use Rattle.little_endian.specs.Bytes.{each, listOf, halfAt, wordAt}
 use Rattle.envelope.specs.declared.Phase.{Phase}
 use Rattle.envelope.specs.declared.Envelope.{Envelope}
 use Rattle.noise.specs.declared.Noise.{Noise}
@@ -23,7 +24,7 @@ use Rattle.chip.specs.declared.Reverb.{Reverb}
 use Rattle.chip.specs.declared.State.{State}
 use Rattle.chip.specs.State.{freshOf, allOf}
 use Rattle.chip.proofs.Parts.{to-end}
-use Rattle.image.specs.Image.{each, listOf, halfAt, wordAt, flagAt, isFlag, phaseOf, envelopeFrom, sourceFrom, positionFrom, playingFrom, voiceFrom, isVoiceAt, noiseFrom, controlFrom, reverbFrom, tag, stateOf, isImage, loadedOf}
+use Rattle.image.specs.Image.{flagAt, isFlag, phaseOf, envelopeFrom, sourceFrom, positionFrom, playingFrom, voiceFrom, isVoiceAt, noiseFrom, controlFrom, reverbFrom, tag, stateOf, isImage, loadedOf}
 
 -- ---- a list that a loop fills
 

@@ -1,11 +1,12 @@
 -- A state as bytes: what stands where, low bytes first, with nothing between. Assumes nothing.
 use mathlib.Core.Bool.{Bool, cond, _&&_}
 use mathlib.Core.List.{List, [], _∷_, _++_}
-use Prim.Native.Nat.{ℕ, zero, suc, _+_, _*_, _/_, _%_}
+use Prim.Native.Nat.{ℕ, _+_, _*_}
 use lib.Dec.{eqb, leb}
 use lib.ListN.{length, getD}
 use lib.IntN.{pos}
 use Rattle.fixed.specs.Signed.{signed, bitsOf}
+use Rattle.little_endian.specs.Bytes.{each, listOf, halfBytes, wordBytes, halfAt, wordAt}
 use Rattle.envelope.specs.declared.Phase.{Phase}
 use Rattle.envelope.specs.declared.Phase.the-variants.{Idle, Attack, Decay, Sustain, Release, Off}
 use Rattle.envelope.specs.declared.Envelope.{Envelope}
@@ -21,34 +22,7 @@ use Rattle.chip.specs.declared.State.{State}
 use Rattle.chip.specs.State.{freshOf, allOf}
 use Rattle.image.specs.declared.Loaded.{Loaded}
 
--- ---- lists by counting
-
--- f 0, then f 1, .., then f (n - 1)
-unfoldable pub each : {A : Type 0} → (ℕ → List A) → ℕ → List A
-each f zero = []
-each f (suc n) = each f n ++ f n
-
--- the list of f 0, f 1, .., f (n - 1)
-abbrev pub listOf : {A : Type 0} → (ℕ → A) → ℕ → List A
-listOf f n = each (λ k. f k ∷ []) n
-
--- ---- numbers: their bytes, and the number whose bytes stand at a place. By the code's types each number fits its bytes.
-
--- the two bytes of a number of 16 bits
-abbrev pub halfBytes : ℕ → List ℕ
-halfBytes v = v % 256 ∷ v / 256 ∷ []
-
--- the four bytes of a number of 32 bits
-abbrev pub wordBytes : ℕ → List ℕ
-wordBytes v = halfBytes (v % 0x10000) ++ halfBytes (v / 0x10000)
-
--- the number of 16 bits at a place
-unfoldable pub halfAt : List ℕ → ℕ → ℕ
-halfAt bs at = getD bs at 0 + getD bs (at + 1) 0 * 256
-
--- the number of 32 bits at a place
-unfoldable pub wordAt : List ℕ → ℕ → ℕ
-wordAt bs at = halfAt bs at + halfAt bs (at + 2) * 0x10000
+-- ---- bools and phases as bytes
 
 -- a bool, 0 or 1
 abbrev pub flagByte : Bool → ℕ

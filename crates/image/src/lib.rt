@@ -1,10 +1,11 @@
 // A state as bytes, for hosts that keep it so: `load` reads the state out of bytes that are its image; `image_store` writes them.
 ghost use mathlib.Core.Path.{_≡_};
-ghost use Prim.Native.Nat.{_+_, _*_, _≤_, _<_};
+ghost use Prim.Native.Nat.{_+_, _*_, _≤_};
 ghost use lib.ListN.{length};
 ghost use Rattle.fixed.specs.Signed.{signed};
 ghost use Rattle.chip.specs.State.{allOf};
-ghost use Rattle.image.specs.Image.{listOf, halfAt, wordAt, flagAt, isFlag as isFlagAt, phaseOf, envelopeFrom, sourceFrom, positionFrom, playingFrom, voiceFrom, isVoiceAt, noiseFrom, controlFrom, reverbFrom, imageLength, stateOf, isImage as isImageOf, loadedOf};
+ghost use Rattle.little_endian.specs.Bytes.{listOf, halfAt};
+ghost use Rattle.image.specs.Image.{flagAt, isFlag as isFlagAt, phaseOf, envelopeFrom, sourceFrom, positionFrom, playingFrom, voiceFrom, isVoiceAt, noiseFrom, controlFrom, reverbFrom, imageLength, stateOf, isImage as isImageOf, loadedOf};
 use chip::Choices;
 use chip::Control;
 use chip::Held;
@@ -12,6 +13,8 @@ use chip::Reverb;
 use chip::State;
 use envelope::Envelope;
 use envelope::Phase;
+use little_endian::half_at;
+use little_endian::word_at;
 use noise::Noise;
 use soundram::ByteAddress;
 use soundram::UnitAddress;
@@ -33,31 +36,6 @@ pub struct Loaded {
 }
 
 // What stands at a place.
-
-// A byte as a halfword.
-fn wide(b: u8) -> u16
-    ensures { λ r. ⌜ (r ≡ b) × (r < 256) ⌝ }
-{
-    b as u16
-}
-
-fn half_at(bytes: &[u8], at: usize) -> u16
-    requires { ⌜ at + 2 ≤ length (now bytes) ⌝ }
-    ensures { λ r. ⌜ r ≡ halfAt (now (bytes .entry)) at ⌝ }
-{
-    let low = wide(bytes[at]);
-    let high = wide(bytes[at + 1]);
-    low + high * 0x100
-}
-
-fn word_at(bytes: &[u8], at: usize) -> u32
-    requires { ⌜ at + 4 ≤ length (now bytes) ⌝ }
-    ensures { λ r. ⌜ r ≡ wordAt (now (bytes .entry)) at ⌝ }
-{
-    let low = half_at(bytes, at) as u32;
-    let high = half_at(bytes, at + 2) as u32;
-    low + high * 0x10000
-}
 
 fn signed_at(bytes: &[u8], at: usize) -> i16
     requires { ⌜ at + 2 ≤ length (now bytes) ⌝ }

@@ -1,40 +1,21 @@
--- Bytes that are put one after another. Assumes nothing.
-use mathlib.Core.Path.{_≡_, refl, sym, _∙_}
+-- The parts of a state, put one after another. Assumes nothing.
+use mathlib.Core.Path.{_≡_, refl}
 use mathlib.Core.Bool.{Bool, true, false}
-use mathlib.Core.List.{List, [], _∷_, _++_, append-assoc, append-nil}
-use Prim.Native.Nat.{ℕ, zero, suc, _+_, _*_, _≤_, _<_}
-use native.Mathlib.Numerals.{add-one}
-use native.Mathlib.Nat.{add-zero, add-assoc}
+use mathlib.Core.List.{List, [], _∷_, _++_, append-assoc}
+use Prim.Native.Nat.{ℕ, _+_, _<_}
 use native.Mathlib.Omega.{arith}
 use mir.Val.{boolByte}
 use lib.IntN.{ℤ, pos}
-use lib.ListN.{length, getD, set, length-set, length-append}
-use lib.Seq.{take-all, take-suc-set}
+use lib.ListN.{length, getD, set, length-append}
 use Rattle.fixed.specs.Signed.{bitsOf}
 use Rattle.voice.specs.declared.Playing.{Playing}
 use Rattle.voice.specs.declared.Voice.{Voice}
 use Rattle.voices.specs.Voices.{pastEnd}
 use Rattle.chip.specs.declared.Reverb.{Reverb}
 use Rattle.chip.specs.declared.State.{State}
-use Rattle.image.specs.Image.{each, halfBytes, wordBytes, flagByte, envelopeBytes, sourceBytes, positionBytes, playingBytes, voiceBytes, noiseBytes, controlBytes, reverbBytes, tag, imageOf}
-use Rattle.image_store.specs.Written.{Put}
-
-pub put-one : (xs : List ℕ) (at v : ℕ) → at < length xs → Put (v ∷ []) xs at (set xs at v)
-put-one xs at v h = record { is = rw (add-one, take-suc-set xs at v h); size = length-set xs at v }
-
-pub put-none : (xs : List ℕ) (at : ℕ) → Put [] xs at xs
-put-none xs at = record { is = rw (add-zero, append-nil); size = refl }
-
-pub put-then : {ys zs xs xs′ xs″ : List ℕ} {at : ℕ} → Put ys xs at xs′ → Put zs xs′ (at + length ys) xs″ → Put (ys ++ zs) xs at xs″
-put-then {ys} {zs} {xs} {xs′} {xs″} {at} p q =
-    record {
-      is = rw (length-append, ← add-assoc) (q .is ∙ rw (p .is, append-assoc));
-      size = q .size ∙ p .size;
-    }
-
--- at a place that is given otherwise
-pub put-at : {ys zs xs xs′ xs″ : List ℕ} {at a : ℕ} → Put ys xs at xs′ → Put zs xs′ a xs″ → a ≡ at + length ys → Put (ys ++ zs) xs at xs″
-put-at {ys} {zs} {xs} {xs′} {xs″} {at} {a} p q e = put-then p (rw e at q)
+use Rattle.little_endian.specs.Bytes.{each, halfBytes, wordBytes, Put}
+use Rattle.little_endian.proofs.Puts.{put-one, put-then, put-at, put-all, each-length}
+use Rattle.image.specs.Image.{flagByte, envelopeBytes, sourceBytes, positionBytes, playingBytes, voiceBytes, noiseBytes, controlBytes, reverbBytes, tag, imageOf}
 
 pub put-flag : (xs : List ℕ) (at : ℕ) (b : Bool) → at < length xs → Put (flagByte b ∷ []) xs at (set xs at (boolByte b))
 put-flag xs at true h = put-one xs at 1 h
@@ -45,31 +26,6 @@ half-as v b e p = rw e at p
 
 pub signed-as : (x z : ℤ) {xs xs′ : List ℕ} {at : ℕ} → x ≡ z → Put (halfBytes (bitsOf 16 x)) xs at xs′ → Put (halfBytes (bitsOf 16 z)) xs at xs′
 signed-as x z e p = rw e at p
-
--- what begins at the first place and ends at the last is all
-pub put-all : (ys : List ℕ) {xs xs′ : List ℕ} → Put ys xs 0 xs′ → length xs ≡ length ys → xs′ ≡ ys
-put-all ys {xs} {xs′} p e =
-    let q : 0 + length ys ≡ length ys = omega arith in
-    sym (take-all (length ys) xs′ (omega (arith, p .size))) ∙ rw q at (p .is)
-
--- ---- a list, element by element
-
-pub each-length : {A : Type 0} (f : ℕ → List A) (m : ℕ) → ((k : ℕ) → length (f k) ≡ m) → (n : ℕ) → length (each f n) ≡ n * m
-unfolding each
-each-length f m l zero = omega arith
-each-length f m l (suc n) = let e = each-length f m l n in length-append (each f n) (f n) ∙ rw (e, l n) (omega arith)
-
-pub each-none : (f : ℕ → List ℕ) (xs : List ℕ) (at : ℕ) → Put (each f 0) xs at xs
-unfolding each
-each-none f xs at = put-none xs at
-
-pub each-more : (f : ℕ → List ℕ) (m n : ℕ) {xs xs′ xs″ : List ℕ} {at : ℕ} → ((k : ℕ) → length (f k) ≡ m) → Put (each f n) xs at xs′ → Put (f n) xs′ (at + n * m) xs″
-    → Put (each f (n + 1)) xs at xs″
-unfolding each
-each-more f m n l p q = rw add-one (put-at p q (rw (each-length f m l n)))
-
-pub each-end : (f : ℕ → List ℕ) (n k : ℕ) {xs xs′ : List ℕ} {at : ℕ} → Put (each f n) xs at xs′ → n ≤ k → k ≤ n → Put (each f k) xs at xs′
-each-end f n k p h g = let q : n ≡ k = omega arith in rw q at p
 
 -- ---- the parts of a state
 

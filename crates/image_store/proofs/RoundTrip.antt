@@ -1,16 +1,14 @@
 -- What was put is read back: an image is one, and it is read as the state that it is of. Assumes nothing.
-use mathlib.Core.Path.{_≡_, refl, sym, ap, subst, _∙_}
+use mathlib.Core.Path.{_≡_, refl, sym, ap, _∙_}
 use mathlib.Core.Bool.{Bool, true, false}
 use mathlib.Core.List.{List, [], _∷_, _++_}
-use Prim.Native.Nat.{ℕ, zero, suc, _+_, _*_, _/_, _%_, _≤_, _<_}
-use native.Mathlib.Nat.{add-zero, add-assoc}
-use native.Mathlib.Decide.{decLt}
+use Prim.Native.Nat.{ℕ, zero, suc, _+_, _*_, _≤_, _<_}
 use native.Mathlib.Omega.{arith}
 use borrow.Author.Tests.{eq-eqb}
 use lib.Dec.{leb}
 use lib.IntN.{ℤ, pos}
-use lib.ListN.{length, getD, take, length-append, List·getD-append}
-use lib.Seq.{getD-append-add, take-suc, take-all}
+use lib.ListN.{length, getD, take}
+use lib.Seq.{take-suc, take-all}
 use Rattle.fixed.specs.Range.{In}
 use Rattle.fixed.specs.Signed.{signed, bitsOf}
 use Rattle.fixed.proofs.TwosComplement.{signed-bits}
@@ -27,48 +25,14 @@ use Rattle.chip.specs.declared.Control.{Control}
 use Rattle.chip.specs.declared.Reverb.{Reverb}
 use Rattle.chip.specs.declared.State.{State}
 use Rattle.chip.specs.State.{allOf}
-use Rattle.image.specs.Image.{each, listOf, halfBytes, wordBytes, halfAt, wordAt, flagByte, flagAt, isFlag, phaseByte, phaseOf, envelopeBytes, sourceBytes, positionBytes, playingBytes, voiceBytes, envelopeFrom, sourceFrom, positionFrom, playingFrom, voiceFrom, isVoiceAt, noiseBytes, controlBytes, reverbBytes, noiseFrom, controlFrom, reverbFrom, tag, imageOf, stateOf, isImage}
+use Rattle.little_endian.specs.Bytes.{each, listOf, halfBytes, wordBytes, halfAt, wordAt}
+use Rattle.little_endian.proofs.Stands.{Has, all, first, rest, part, one, half-read, word-read, each-read}
+use Rattle.image.specs.Image.{flagByte, flagAt, isFlag, phaseByte, phaseOf, envelopeBytes, sourceBytes, positionBytes, playingBytes, voiceBytes, envelopeFrom, sourceFrom, positionFrom, playingFrom, voiceFrom, isVoiceAt, noiseBytes, controlBytes, reverbBytes, noiseFrom, controlFrom, reverbFrom, tag, imageOf, stateOf, isImage}
 use Rattle.image_store.specs.Written.{Samples, Voices, Typed}
 use Rattle.image.proofs.Laws.{all-snoc}
-use Rattle.image_store.proofs.Puts.{each-length, playing-length, voice-length, registersBytes, voicesBytes, frontBytes, restBytes, registers-length, front-length, two-parts, image-length}
-
--- ---- bytes at a place
-
-record Has (bs : List ℕ) (at : ℕ) (ys : List ℕ) : Type 0 where
-  pub is : (i : ℕ) → i < length ys → getD bs (at + i) 0 ≡ getD ys i 0
-
-all : (bs : List ℕ) → Has bs 0 bs
-all bs = record { is = λ i h. let e : 0 + i ≡ i = omega arith in rw e }
-
-first : {bs : List ℕ} {at : ℕ} (ys zs : List ℕ) → Has bs at (ys ++ zs) → Has bs at ys
-first ys zs h = record { is = λ i l. let m = length-append ys zs in h .is i (omega arith) ∙ List·getD-append ys zs 0 i l }
-
-rest : {bs : List ℕ} {at a : ℕ} (ys zs : List ℕ) → Has bs at (ys ++ zs) → a ≡ at + length ys → Has bs a zs
-rest {bs} {at} {a} ys zs h e =
-    record {
-      is = λ i l.
-          let m = length-append ys zs in
-          rw (e, add-assoc) (h .is (length ys + i) (omega arith) ∙ getD-append-add ys zs i 0);
-    }
-
-part : {bs : List ℕ} {at a : ℕ} (ys ws zs : List ℕ) → Has bs at (ys ++ (ws ++ zs)) → a ≡ at + length ys → Has bs a ws
-part ys ws zs h e = first ws zs (rest ys (ws ++ zs) h e)
-
-one : {bs : List ℕ} {at y : ℕ} {zs : List ℕ} → Has bs at (y ∷ zs) → getD bs at 0 ≡ y
-one {bs} {at} {y} {zs} h = rw add-zero at (h .is 0 (omega arith))
+use Rattle.image_store.proofs.Puts.{playing-length, voice-length, registersBytes, voicesBytes, frontBytes, restBytes, registers-length, front-length, two-parts, image-length}
 
 -- ---- numbers
-
-half-read : {bs : List ℕ} {at : ℕ} (v : ℕ) → Has bs at (halfBytes v) → halfAt bs at ≡ v
-unfolding halfAt
-half-read v h = rw (one h, h .is 1 (omega arith)) (omega arith)
-
-word-read : {bs : List ℕ} {at : ℕ} (v : ℕ) → Has bs at (wordBytes v) → wordAt bs at ≡ v
-unfolding wordAt
-word-read {bs} {at} v h =
-    let a = half-read (v % 0x10000) (first (halfBytes (v % 0x10000)) (halfBytes (v / 0x10000)) h) in
-    let b = half-read {at = at + 2} (v / 0x10000) (rest (halfBytes (v % 0x10000)) (halfBytes (v / 0x10000)) h refl) in
-    rw (a, b) (omega arith)
 
 signed-read : {bs : List ℕ} {at : ℕ} (z : ℤ) → In 0x8000 0x7FFF z → Has bs at (halfBytes (bitsOf 16 z)) → signed 16 (halfAt bs at) ≡ z
 signed-read z i h = rw (half-read (bitsOf 16 z) h) (signed-bits 16 0x8000 z refl (omega arith) (omega arith))
@@ -99,17 +63,6 @@ phase-is Release = refl
 phase-is Off = refl
 
 -- ---- lists
-
-each-read : {bs : List ℕ} {at : ℕ} (f : ℕ → List ℕ) (m n : ℕ) → ((k : ℕ) → length (f k) ≡ m) → Has bs at (each f n) → (k : ℕ) → k < n → Has bs (at + k * m) (f k)
-unfolding each
-each-read f m zero l h k b = absurd (omega arith)
-each-read {bs} {at} f m (suc n) l h k b =
-    elim (decLt k n) [
-      | yes q ↦ each-read f m n l (first (each f n) (f n) h) k q
-      | no q ↦
-          let e : n ≡ k = omega arith in
-          subst (λ (i : ℕ). Has bs (at + i * m) (f i)) e (rest (each f n) (f n) h (ap (λ (i : ℕ). at + i) (sym (each-length f m l n))))
-    ]
 
 list-of : {A : Type 0} (d : A) (xs : List A) (g : ℕ → A) (n : ℕ) → n ≤ length xs → ((k : ℕ) → k < n → g k ≡ getD xs k d) → listOf g n ≡ take n xs
 unfolding each

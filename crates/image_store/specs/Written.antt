@@ -1,18 +1,13 @@
--- What the writing functions promise. Assumes nothing.
+-- What the writing functions learn of a state's parts from their types. Assumes nothing.
 use mathlib.Core.Path.{_≡_}
-use mathlib.Core.List.{List, _++_}
-use Prim.Native.Nat.{ℕ, _+_, _<_}
+use mathlib.Core.List.{List}
+use Prim.Native.Nat.{ℕ, _<_}
 use lib.IntN.{ℤ, pos}
-use lib.ListN.{length, getD, take}
+use lib.ListN.{length, getD}
 use Rattle.fixed.specs.Range.{In}
 use Rattle.voice.specs.declared.Voice.{Voice}
 use Rattle.voices.specs.Voices.{pastEnd}
 use Rattle.chip.specs.declared.State.{State}
-
--- ys was put at a place of xs, which is xs′ now: up to the end of ys it is xs up to the place, then ys; and it is as long as xs
-pub record Put (ys xs : List ℕ) (at : ℕ) (xs′ : List ℕ) : Type 0 where
-  pub is : take (at + length ys) xs′ ≡ take at xs ++ ys
-  pub size : length xs′ ≡ length xs
 
 -- what the types fix of samples and of voices, by which they are read back as they were
 pub record Samples (xs : List ℤ) : Type 0 where

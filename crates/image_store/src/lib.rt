@@ -7,34 +7,21 @@ ghost use lib.ListN.{length, getD};
 ghost use lib.IntN.{pos};
 ghost use Rattle.fixed.specs.Signed.{bitsOf};
 ghost use Rattle.voices.specs.Voices.{pastEnd};
-ghost use Rattle.image.specs.Image.{each, halfBytes, wordBytes, flagByte, phaseByte, envelopeBytes, sourceBytes, positionBytes, playingBytes, voiceBytes, noiseBytes, controlBytes, reverbBytes, imageLength, tag, imageOf, stateOf, isImage as isImageOf};
-ghost use Rattle.image_store.specs.Written.{Put, Samples, Voices};
+ghost use Rattle.little_endian.specs.Bytes.{each, halfBytes, wordBytes, Put};
+ghost use Rattle.image.specs.Image.{flagByte, phaseByte, envelopeBytes, sourceBytes, positionBytes, playingBytes, voiceBytes, noiseBytes, controlBytes, reverbBytes, imageLength, tag, imageOf, stateOf, isImage as isImageOf};
+ghost use Rattle.image_store.specs.Written.{Samples, Voices};
 use chip::Control;
 use chip::Reverb;
 use chip::State;
 use envelope::Envelope;
 use envelope::Phase;
+use little_endian::put_half;
+use little_endian::put_word;
 use noise::Noise;
 use voice::Playing;
 use voice::Position;
 use voice::Source;
 use voice::Voice;
-
-fn put_half(out: &mut [u8], at: usize, v: u16)
-    requires { ⌜ at + 2 ≤ length (now out) ⌝ }
-    ensures { λ _. ⌜ Put (halfBytes v) (now (out .entry)) at (now (out .exit)) ⌝ }
-{
-    out[at] = (v % 0x100) as u8;
-    out[at + 1] = (v / 0x100) as u8;
-}
-
-fn put_word(out: &mut [u8], at: usize, v: u32)
-    requires { ⌜ at + 4 ≤ length (now out) ⌝ }
-    ensures { λ _. ⌜ Put (wordBytes v) (now (out .entry)) at (now (out .exit)) ⌝ }
-{
-    put_half(out, at, (v % 0x10000) as u16);
-    put_half(out, at + 2, (v / 0x10000) as u16);
-}
 
 fn put_signed(out: &mut [u8], at: usize, x: i16)
     requires { ⌜ at + 2 ≤ length (now out) ⌝ }

@@ -2,7 +2,8 @@ use mathlib.Core.Path.{_≡_}
 use Prim.Native.Nat.{_+_, _*_, _-_, _≤_}
 use borrow.Author.Needs.{needs}
 use Rattle.chip.specs.State.{allOf}
-use Rattle.image.specs.Image.{isVoiceAt, listOf}
+use Rattle.little_endian.specs.Bytes.{listOf}
+use Rattle.image.specs.Image.{isVoiceAt}
 use Rattle.image.proofs.Laws.{all-none, all-more, all-tested}
 use Rattle.image.proofs.are_voices.Statement.{statement}
 use Rattle.image.proofs.are_voices.Tie as tie

@@ -2,7 +2,7 @@ use mathlib.Core.Path.{_≡_}
 use Prim.Native.Nat.{_+_, _*_, _-_, _≤_}
 use borrow.Author.Needs.{needs}
 use lib.ListN.{length, take}
-use Rattle.image.specs.Image.{halfAt, listOf}
+use Rattle.little_endian.specs.Bytes.{halfAt, listOf}
 use Rattle.image.proofs.Laws.{filled-none, filled-more, filled-all}
 use Rattle.image.proofs.registers_from.Statement.{statement}
 use Rattle.image.proofs.registers_from.Tie as tie

@@ -5,7 +5,7 @@ use mir.Syntax.{w16}
 use lib.ListN.{length, take}
 use Rattle.fixed.proofs.Number.{passed}
 use Rattle.fixed.specs.Signed.{signed}
-use Rattle.image.specs.Image.{halfAt, listOf}
+use Rattle.little_endian.specs.Bytes.{halfAt, listOf}
 use Rattle.image.proofs.Laws.{filled-none, filled-more, filled-all}
 use Rattle.image.proofs.samples_from.Statement.{statement}
 use Rattle.image.proofs.samples_from.Tie as tie

@@ -2,7 +2,8 @@ use mathlib.Core.Path.{_≡_}
 use Prim.Native.Nat.{_+_, _*_, _-_, _≤_}
 use borrow.Author.Needs.{needs}
 use lib.ListN.{length, take}
-use Rattle.image.specs.Image.{listOf, voiceFrom}
+use Rattle.little_endian.specs.Bytes.{listOf}
+use Rattle.image.specs.Image.{voiceFrom}
 use Rattle.image.proofs.Laws.{filled-none, filled-more, filled-all}
 use Rattle.image.proofs.voices_from.Statement.{statement}
 use Rattle.image.proofs.voices_from.Tie as tie

@@ -1,5 +1,5 @@
 use borrow.Author.Needs.{needs}
-use Rattle.image_store.proofs.Puts.{put-one}
+use Rattle.little_endian.proofs.Puts.{put-one}
 use Rattle.image_store.proofs.put_byte.Statement.{statement}
 use Rattle.image_store.proofs.put_byte.Tie as tie
 

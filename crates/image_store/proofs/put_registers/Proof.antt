@@ -2,9 +2,8 @@ use mathlib.Core.Path.{refl}
 use Prim.Native.Nat.{_-_, _≤_}
 use borrow.Author.Needs.{needs}
 use lib.ListN.{getD}
-use Rattle.image.specs.Image.{each, halfBytes}
-use Rattle.image_store.specs.Written.{Put}
-use Rattle.image_store.proofs.Puts.{each-none, each-more, each-end}
+use Rattle.little_endian.specs.Bytes.{each, halfBytes, Put}
+use Rattle.little_endian.proofs.Puts.{each-none, each-more, each-end}
 use Rattle.image_store.proofs.put_registers.Statement.{statement}
 use Rattle.image_store.proofs.put_registers.Tie as tie
 

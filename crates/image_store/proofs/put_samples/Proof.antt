@@ -11,9 +11,9 @@ use lib.ListN.{getD}
 use Rattle.fixed.specs.Range.{In}
 use Rattle.fixed.specs.Signed.{bitsOf}
 use Rattle.fixed.proofs.Number.{arg}
-use Rattle.image.specs.Image.{each, halfBytes}
-use Rattle.image_store.specs.Written.{Put}
-use Rattle.image_store.proofs.Puts.{signed-as, each-none, each-more, each-end}
+use Rattle.little_endian.specs.Bytes.{each, halfBytes, Put}
+use Rattle.little_endian.proofs.Puts.{each-none, each-more, each-end}
+use Rattle.image_store.proofs.Puts.{signed-as}
 use Rattle.image_store.proofs.put_samples.Statement.{statement}
 use Rattle.image_store.proofs.put_samples.Tie as tie
 

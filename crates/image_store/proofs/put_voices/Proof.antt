@@ -4,9 +4,11 @@ use borrow.Author.Needs.{needs}
 use borrow.Author.Count.{below-none, below-more}
 use lib.ListN.{getD}
 use Rattle.voices.specs.Voices.{pastEnd}
-use Rattle.image.specs.Image.{each, voiceBytes}
-use Rattle.image_store.specs.Written.{Put, Samples}
-use Rattle.image_store.proofs.Puts.{voice-length, each-none, each-more, each-end}
+use Rattle.little_endian.specs.Bytes.{each, Put}
+use Rattle.image.specs.Image.{voiceBytes}
+use Rattle.image_store.specs.Written.{Samples}
+use Rattle.little_endian.proofs.Puts.{each-none, each-more, each-end}
+use Rattle.image_store.proofs.Puts.{voice-length}
 use Rattle.image_store.proofs.put_voices.Statement.{statement}
 use Rattle.image_store.proofs.put_voices.Tie as tie
 

@@ -1,7 +1,7 @@
 use borrow.Author.Needs.{needs}
-use Rattle.image.specs.Image.{wordAt}
-use Rattle.image.proofs.word_at.Statement.{statement}
-use Rattle.image.proofs.word_at.Tie as tie
+use Rattle.little_endian.specs.Bytes.{wordAt}
+use Rattle.little_endian.proofs.word_at.Statement.{statement}
+use Rattle.little_endian.proofs.word_at.Tie as tie
 
 half-at-requires : tie.Need-half-at-requires
 half-at-requires c κs = search needs

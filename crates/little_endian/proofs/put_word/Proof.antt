@@ -1,7 +1,7 @@
 use borrow.Author.Needs.{needs}
-use Rattle.image_store.proofs.Puts.{put-then}
-use Rattle.image_store.proofs.put_word.Statement.{statement}
-use Rattle.image_store.proofs.put_word.Tie as tie
+use Rattle.little_endian.proofs.Puts.{put-then}
+use Rattle.little_endian.proofs.put_word.Statement.{statement}
+use Rattle.little_endian.proofs.put_word.Tie as tie
 
 cast-put-half : tie.Need-cast-put-half
 cast-put-half c = search needs

@@ -1,9 +1,9 @@
 use native.Mathlib.Omega.{arith}
 use borrow.Author.Needs.{needs}
 use lib.ListN.{length-set}
-use Rattle.image_store.proofs.Puts.{put-one, put-then}
-use Rattle.image_store.proofs.put_half.Statement.{statement}
-use Rattle.image_store.proofs.put_half.Tie as tie
+use Rattle.little_endian.proofs.Puts.{put-one, put-then}
+use Rattle.little_endian.proofs.put_half.Statement.{statement}
+use Rattle.little_endian.proofs.put_half.Tie as tie
 
 cast-out : tie.Need-cast-out
 cast-out c = search needs

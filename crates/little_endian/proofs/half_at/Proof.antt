@@ -1,7 +1,7 @@
 use borrow.Author.Needs.{needs}
-use Rattle.image.specs.Image.{halfAt}
-use Rattle.image.proofs.half_at.Statement.{statement}
-use Rattle.image.proofs.half_at.Tie as tie
+use Rattle.little_endian.specs.Bytes.{halfAt}
+use Rattle.little_endian.proofs.half_at.Statement.{statement}
+use Rattle.little_endian.proofs.half_at.Tie as tie
 
 shared-slice-read-wide : tie.Need-shared-slice-read-wide
 shared-slice-read-wide c = search needs
