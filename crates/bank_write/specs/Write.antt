@@ -1,0 +1,52 @@
+-- Writing a sound bank: "entries, then the data as handed in" (document 02, M-100). Assumes nothing.
+use mathlib.Core.Bool.{Bool, cond, _&&_}
+use mathlib.Core.List.{List, _++_}
+use Prim.Native.Nat.{ℕ}
+use lib.Dec.{eqb, leb}
+use lib.ListN.{length, getD, drop}
+use Rattle.little_endian.specs.Bytes.{each, halfBytes, wordBytes}
+use Rattle.bank.specs.declared.Entry.{Entry}
+use Rattle.bank.specs.Bank.{isGood}
+
+-- the entries that are handed in, as a list of each field
+pub record Lists : Type 0 where
+  pub kinds : List ℕ
+  pub offsets : List ℕ
+  pub counts : List ℕ
+
+abbrev pub entryIn : Lists → ℕ → Entry
+entryIn ls n = record { kind = getD (ls .kinds) n 0; offset = getD (ls .offsets) n 0; count = getD (ls .counts) n 0 }
+
+abbrev pub entriesIn : Lists → ℕ
+entriesIn ls = length (ls .kinds)
+
+-- "per entry a kind (16 bits ..), an offset and a block count (32 bits each), all low byte first"
+unfoldable pub entryBytes : Entry → List ℕ
+entryBytes e = halfBytes (e .kind) ++ wordBytes (e .offset) ++ wordBytes (e .count)
+
+-- "a header with the entry count (16 bits ..), then per entry .., then the data"
+unfoldable pub headerBytes : Lists → List ℕ
+headerBytes ls = halfBytes (entriesIn ls) ++ each (λ n. entryBytes (entryIn ls n)) (entriesIn ls)
+
+unfoldable pub bankOf : Lists → List ℕ → List ℕ
+bankOf ls «data» = headerBytes ls ++ «data»
+
+-- the lists are of one length, "at most 1,024", and the bank to be written is good
+unfoldable pub isWritable : Lists → List ℕ → Bool
+isWritable ls «data» =
+    eqb (length (ls .offsets)) (entriesIn ls) && (eqb (length (ls .counts)) (entriesIn ls) && (leb (entriesIn ls) 1024 && isGood (bankOf ls «data»)))
+
+pub record Written : Type 0 where
+  pub number : ℕ
+  pub length : ℕ
+  pub out : List ℕ
+
+-- "9 .. entries handed to the writer that break the rules"; "24 buffer shorter than the bank to be written"; "the buffer then stays, as do bytes past a
+-- written bank"
+unfoldable pub writtenOf : Lists → («data» out : List ℕ) → Written
+writtenOf ls «data» out =
+    let bank = bankOf ls «data» in
+    cond (isWritable ls «data»)
+    (cond (leb (length bank) (length out)) (record { number = 0; length = length bank; out = bank ++ drop (length bank) out })
+    (record { number = 24; length = 0; out = out }))
+    (record { number = 9; length = 0; out = out })
