@@ -2,12 +2,13 @@
 use mathlib.Core.Path.{_≡_, refl, sym, ap, _∙_}
 use mathlib.Core.Bool.{Bool, true, false, cond, _&&_, _||_, not, false≢true}
 use mathlib.Core.List.{List}
-use Prim.Native.Nat.{ℕ, zero, suc, _+_, _≤_, _<_}
+use Prim.Native.Nat.{ℕ, zero, suc, _+_, _*_, _≤_, _<_}
+use native.Mathlib.Nat.{le-trans}
 use native.Mathlib.Numerals.{add-one}
 use native.Mathlib.Decide.{decLt}
 use native.Mathlib.Omega.{arith}
 use borrow.Author.Tests.{leb-true, not-true, not-false, le-leb, lt-leb, lt-ltb, le-ltb}
-use lib.Dec.{leb}
+use lib.Dec.{eqb, leb}
 use lib.ListN.{length}
 use Rattle.fixed.proofs.Bools.{and-first, and-rest}
 use Rattle.little_endian.specs.Bytes.{halfAt, wordAt}
@@ -70,6 +71,30 @@ pub entry-at-tested : (bank : List ℕ) (n : ℕ) {end count : ℕ} {e : Entry} 
     → b ≡ isEntry end (length bank) n e → b ≡ isEntryAt bank n
 entry-at-tested bank n ec ed ee eb = rw (eb, ed, ec, ee)
 
+-- what is good in a file is good in a longer one
+sound-longer : (end size more : ℕ) (e : Entry) → size ≤ more → isSound end size e ≡ true → isSound end more e ≡ true
+unfolding isSound
+sound-longer end size more e l t =
+    keep (eqb (e .kind) 0) (leb end (e .offset)) (leb stop size) (leb stop more) _ (λ u. le-leb stop more (le-trans (leb-true stop size u) l)) t
+  where
+    stop : ℕ
+    stop = e .offset + e .count * 16
+
+    keep : (a b p q c : Bool) → (p ≡ true → q ≡ true) → (a && (b && (p && c))) ≡ true → (a && (b && (q && c))) ≡ true
+    keep true true true q c i u = rw (i refl) u
+    keep true true false q c i u = absurd (false≢true u)
+    keep true false p q c i u = absurd (false≢true u)
+    keep false b p q c i u = absurd (false≢true u)
+
+pub entry-longer : (end size more n : ℕ) (e : Entry) → size ≤ more → isEntry end size n e ≡ true → isEntry end more n e ≡ true
+unfolding isEntry
+entry-longer end size more n e l t = keep (isSound end size e) (isSound end more e) (isAlias n e) (sound-longer end size more e l) t
+  where
+    keep : (p q c : Bool) → (p ≡ true → q ≡ true) → (p || c) ≡ true → (q || c) ≡ true
+    keep true q c i u = rw (i refl)
+    keep false true c i u = refl
+    keep false false c i u = u
+
 -- ---- damage
 
 pub nowhere : (d : Damage) → isNowhere d ≡ true → d ≡ Nowhere
@@ -112,6 +137,11 @@ module _ (good : ℕ → Bool) where
         | yes q ↦ below-all k (and-first (isNowhere (damageBelow good k)) _ b) n q
         | no q ↦ let s : k ≡ n = omega arith in rw (← s) (and-rest (isNowhere (damageBelow good k)) _ b)
       ]
+
+  pub below-same : (other : ℕ → Bool) (k : ℕ) → ((n : ℕ) → n < k → good n ≡ other n) → damageBelow good k ≡ damageBelow other k
+  unfolding damageBelow
+  below-same other zero g = refl
+  below-same other (suc k) g = rw (below-same other k (λ n h. g n (omega arith)), g k (omega arith))
 
   pub all-below : (k : ℕ) → ((n : ℕ) → n < k → good n ≡ true) → damageBelow good k ≡ Nowhere
   unfolding damageBelow

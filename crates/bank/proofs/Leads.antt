@@ -64,6 +64,17 @@ module _ (entry : ℕ → Entry) (end size count : ℕ) (good : (n : ℕ) → n 
       let f = falls (suc n) h t in
       enough (entry (suc n) .offset) n (entry (suc n) .offset) (omega arith) (omega arith) (omega arith) ∙ rw t
 
+  -- other entries that are the same below the count lead the same way
+  pub leads-same : (other : ℕ → Entry) → ((n : ℕ) → n < count → other n ≡ entry n) → (k n : ℕ) → n < count → leadsTo other k n ≡ leadsTo entry k n
+  unfolding leadsTo
+  leads-same other s zero n h = refl
+  leads-same other s (suc k) n h = rw (s n h) (by (eqb (entry n .kind) 1) refl (λ f. leads-same other s k (entry n .offset) (omega arith)))
+    where
+      by : (b : Bool) → eqb (entry n .kind) 1 ≡ b → (entry n .offset < n → leadsTo other k (entry n .offset) ≡ leadsTo entry k (entry n .offset))
+          → cond b (leadsTo other k (entry n .offset)) n ≡ cond b (leadsTo entry k (entry n .offset)) n
+      by true t r = r (falls n h t)
+      by false t r = refl
+
   pub record Sound (n : ℕ) : Type 0 where
     pub below : n < count
     pub is : isSound end size (entry n) ≡ true
@@ -131,8 +142,11 @@ module _ (bank : List ℕ) (g : isGood bank ≡ true) (n : ℕ) (h : n < countOf
   is-sound : Sound (entryAt bank) end (length bank) (countOf bank) entries sound
   is-sound = leads-sound (entryAt bank) end (length bank) (countOf bank) entries n n (omega arith) h
 
+  pub sound-below : sound < countOf bank
+  sound-below = is-sound .below
+
   pub sound-stands : placeOf sound + 10 ≤ length bank
-  sound-stands = entry-inside (good-header bank g) (is-sound .below)
+  sound-stands = entry-inside (good-header bank g) sound-below
 
   pub sound-lies : Inside end (length bank) (entryAt bank sound)
   sound-lies = sound-inside end (length bank) (entryAt bank sound) (is-sound .is)

@@ -1,18 +1,22 @@
 -- Writing a sound bank: "entries, then the data as handed in" (document 02, M-100). Assumes nothing.
-use mathlib.Core.Bool.{Bool, cond, _&&_}
+use mathlib.Core.Path.{_≡_}
+use mathlib.Core.Bool.{Bool, true, cond, _&&_}
 use mathlib.Core.List.{List, _++_}
-use Prim.Native.Nat.{ℕ}
+use Prim.Native.Nat.{ℕ, _*_, _≤_, _<_}
 use lib.Dec.{eqb, leb}
-use lib.ListN.{length, getD, drop}
+use lib.ListN.{length, getD, take, drop}
 use Rattle.little_endian.specs.Bytes.{each, halfBytes, wordBytes}
 use Rattle.bank.specs.declared.Entry.{Entry}
-use Rattle.bank.specs.Bank.{isGood}
+use Rattle.bank.specs.Bank.{countOf, entryAt, isGood, soundOf, lookupOf}
 
 -- the entries that are handed in, as a list of each field
 pub record Lists : Type 0 where
   pub kinds : List ℕ
   pub offsets : List ℕ
   pub counts : List ℕ
+
+abbrev pub lists : (kinds offsets counts : List ℕ) → Lists
+lists ks os cs = record { kinds = ks; offsets = os; counts = cs }
 
 abbrev pub entryIn : Lists → ℕ → Entry
 entryIn ls n = record { kind = getD (ls .kinds) n 0; offset = getD (ls .offsets) n 0; count = getD (ls .counts) n 0 }
@@ -50,3 +54,18 @@ writtenOf ls «data» out =
     (cond (leb (length bank) (length out)) (record { number = 0; length = length bank; out = bank ++ drop (length bank) out })
     (record { number = 24; length = 0; out = out }))
     (record { number = 9; length = 0; out = out })
+
+-- ---- "reading it back gives the same entries and sounds"
+
+-- the bytes that stand in a bank of these entries, at the offset of the sound that entry n is or leads to
+abbrev pub soundIn : Lists → List ℕ → ℕ → List ℕ
+soundIn ls bank n = let e = entryIn ls (soundOf (entryIn ls) n) in take (e .count * 16) (drop (e .offset) bank)
+
+-- `file` is read as `bank`, a bank of these entries: it is good, has the same entries, and a lookup in it gives the same sounds, be it the title's bank or the
+-- house's
+pub record ReadBack (ls : Lists) (bank file : List ℕ) : Type 0 where
+  pub good : isGood file ≡ true
+  pub count : countOf file ≡ entriesIn ls
+  pub entries : (n : ℕ) → n < entriesIn ls → entryAt file n ≡ entryIn ls n
+  pub in-title : (house : List ℕ) → isGood house ≡ true → (n : ℕ) → n < entriesIn ls → lookupOf file house n ≡ soundIn ls bank n
+  pub in-house : (title : List ℕ) → isGood title ≡ true → (n : ℕ) → countOf title ≤ n → n < entriesIn ls → lookupOf title file n ≡ soundIn ls bank n

@@ -5,7 +5,7 @@ ghost use Prim.Native.Nat.{_+_, _*_, _≤_};
 ghost use lib.ListN.{length};
 ghost use Rattle.little_endian.specs.Bytes.{each, Put};
 ghost use Rattle.bank.specs.Bank.{placeOf, isEntry, damageBelow, isNowhere};
-ghost use Rattle.bank_write.specs.Write.{entryIn, entryBytes, headerBytes, bankOf, isWritable, writtenOf};
+ghost use Rattle.bank_write.specs.Write.{lists, entryIn, entryBytes, headerBytes, bankOf, isWritable, writtenOf};
 use bank::Entry;
 use little_endian::put_half;
 use little_endian::put_word;
@@ -19,7 +19,7 @@ pub struct Written {
 // Whether each entry of the lists is good in a file of `size` bytes.
 fn are_entries(kinds: &[u16], offsets: &[u32], counts: &[u32], size: usize) -> bool
     requires { ⌜ (length (now kinds) ≤ 1024) × (length (now offsets) ≡ length (now kinds)) × (length (now counts) ≡ length (now kinds)) ⌝ }
-    ensures { λ r. ⌜ r ≡ isNowhere (damageBelow (λ n. isEntry (placeOf (length (now (kinds .entry)))) size n (entryIn (record { kinds = now (kinds .entry); offsets = now (offsets .entry); counts = now (counts .entry) }) n)) (length (now (kinds .entry)))) ⌝ }
+    ensures { λ r. ⌜ r ≡ isNowhere (damageBelow (λ n. isEntry (placeOf (length (now (kinds .entry)))) size n (entryIn (lists (now (kinds .entry)) (now (offsets .entry)) (now (counts .entry))) n)) (length (now (kinds .entry)))) ⌝ }
 {
     let end = bank::header_end(kinds.len());
     for n in 0..kinds.len() {
@@ -37,7 +37,7 @@ fn are_entries(kinds: &[u16], offsets: &[u32], counts: &[u32], size: usize) -> b
 
 // The bank's length, where it is good.
 fn is_writable(kinds: &[u16], offsets: &[u32], counts: &[u32], data: &[u8]) -> bool
-    ensures { λ r. ⌜ r ≡ isWritable (record { kinds = now (kinds .entry); offsets = now (offsets .entry); counts = now (counts .entry) }) (now («data» .entry)) ⌝ }
+    ensures { λ r. ⌜ r ≡ isWritable (lists (now (kinds .entry)) (now (offsets .entry)) (now (counts .entry))) (now («data» .entry)) ⌝ }
 {
     let count = kinds.len();
     let sized = (offsets.len() == count) & ((counts.len() == count) & (count <= bank::MOST_ENTRIES));
@@ -58,7 +58,7 @@ fn put_entry(out: &mut [u8], at: usize, kind: u16, offset: u32, count: u32)
 
 fn put_header(out: &mut [u8], kinds: &[u16], offsets: &[u32], counts: &[u32])
     requires { ⌜ (length (now kinds) ≤ 1024) × (length (now offsets) ≡ length (now kinds)) × (length (now counts) ≡ length (now kinds)) × (placeOf (length (now kinds)) ≤ length (now out)) ⌝ }
-    ensures { λ _. ⌜ Put (headerBytes (record { kinds = now (kinds .entry); offsets = now (offsets .entry); counts = now (counts .entry) })) (now (out .entry)) 0 (now (out .exit)) ⌝ }
+    ensures { λ _. ⌜ Put (headerBytes (lists (now (kinds .entry)) (now (offsets .entry)) (now (counts .entry)))) (now (out .entry)) 0 (now (out .exit)) ⌝ }
 {
     let count = kinds.len();
     put_half(out, 0, count as u16);
@@ -84,7 +84,7 @@ pub fn write(
     data: &[u8],
     out: &mut [u8],
 ) -> Written
-    ensures { λ r. ⌜ record { number = r .number; length = r .length; out = now (out .exit) } ≡ writtenOf (record { kinds = now (kinds .entry); offsets = now (offsets .entry); counts = now (counts .entry) }) (now («data» .entry)) (now (out .entry)) ⌝ }
+    ensures { λ r. ⌜ record { number = r .number; length = r .length; out = now (out .exit) } ≡ writtenOf (lists (now (kinds .entry)) (now (offsets .entry)) (now (counts .entry))) (now («data» .entry)) (now (out .entry)) ⌝ }
 {
     if !is_writable(kinds, offsets, counts, data) {
         return Written {
