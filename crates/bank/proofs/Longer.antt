@@ -1,16 +1,14 @@
 -- Bytes past a good bank change nothing of what is read from it. Assumes nothing.
-use mathlib.Core.Path.{_≡_, refl, sym, ap, _∙_}
-use mathlib.Core.Bool.{Bool, true, false, cond}
+use mathlib.Core.Path.{_≡_}
+use mathlib.Core.Bool.{Bool, true}
 use mathlib.Core.List.{List, _++_}
-use Prim.Native.Nat.{ℕ, zero, suc, _+_, _*_, _≤_, _<_}
+use Prim.Native.Nat.{ℕ, _+_, _≤_, _<_}
 use native.Mathlib.Omega.{arith}
-use lib.Dec.{eqb}
-use lib.ListN.{length, getD, take, drop, length-append, length-drop, List·getD-append}
+use lib.ListN.{length, take, drop, length-append, length-drop, List·getD-append}
 use lib.Seq.{take-append-le, drop-append-le}
 use Rattle.little_endian.specs.Bytes.{halfAt, wordAt}
-use Rattle.bank.specs.declared.Entry.{Entry}
-use Rattle.bank.specs.Bank.{countOf, placeOf, entryAt, isHeader, isEntry, isGood, leadsTo, soundOf, foundIn}
-use Rattle.bank.proofs.Laws.{Header, header-is, is-header, entry-inside, entry-longer, Good, good-is, is-good, good-header}
+use Rattle.bank.specs.Bank.{countOf, placeOf, entryAt, isGood, soundOf, foundIn}
+use Rattle.bank.proofs.Laws.{Header, is-header, entry-inside, entry-longer, good-is, is-good, good-header}
 use Rattle.bank.proofs.Leads.{leads-same, sound-below}
 
 half-longer : (bank rest : List ℕ) (at : ℕ) → at + 2 ≤ length bank → halfAt (bank ++ rest) at ≡ halfAt bank at
@@ -47,11 +45,11 @@ module _ (bank rest : List ℕ) (g : isGood bank ≡ true) where
       is-good whole
       (record {
         header = is-header whole
-        (record {
-          two = omega (arith, header .two);
-          most = rw count-longer (header .most);
-          inside = let i = header .inside in rw count-longer (omega arith);
-        });
+            (record {
+              two = omega (arith, header .two);
+              most = rw count-longer (header .most);
+              inside = let i = header .inside in rw count-longer (omega arith);
+            });
         entries = λ n h.
             let k : n < countOf bank = rw (← count-longer) h in
             rw (count-longer, entry-same n k) (entry-longer (placeOf (countOf bank)) (length bank) (length whole) n (entryAt bank n) (omega arith) (good-is bank g .entries n k));

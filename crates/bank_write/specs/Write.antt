@@ -7,7 +7,7 @@ use lib.Dec.{eqb, leb}
 use lib.ListN.{length, getD, take, drop}
 use Rattle.little_endian.specs.Bytes.{each, halfBytes, wordBytes}
 use Rattle.bank.specs.declared.Entry.{Entry}
-use Rattle.bank.specs.Bank.{countOf, entryAt, isGood, soundOf, lookupOf}
+use Rattle.bank.specs.Bank.{countOf, headerEnd, entryAt, isEntry, isGood, soundOf, lookupOf}
 
 -- the entries that are handed in, as a list of each field
 pub record Lists : Type 0 where
@@ -28,17 +28,27 @@ entriesIn ls = length (ls .kinds)
 unfoldable pub entryBytes : Entry → List ℕ
 entryBytes e = halfBytes (e .kind) ++ wordBytes (e .offset) ++ wordBytes (e .count)
 
+abbrev pub entriesBytes : Lists → List ℕ
+entriesBytes ls = each (λ n. entryBytes (entryIn ls n)) (entriesIn ls)
+
 -- "a header with the entry count (16 bits ..), then per entry .., then the data"
 unfoldable pub headerBytes : Lists → List ℕ
-headerBytes ls = halfBytes (entriesIn ls) ++ each (λ n. entryBytes (entryIn ls n)) (entriesIn ls)
+headerBytes ls = halfBytes (entriesIn ls) ++ entriesBytes ls
 
 unfoldable pub bankOf : Lists → List ℕ → List ℕ
 bankOf ls «data» = headerBytes ls ++ «data»
 
--- the lists are of one length, "at most 1,024", and the bank to be written is good
+-- whether entry n of the lists is good in a file of `size` bytes
+abbrev pub isEntryIn : Lists → ℕ → ℕ → Bool
+isEntryIn ls size n = isEntry (headerEnd (entriesIn ls)) size n (entryIn ls n)
+
+-- the lists are of one length, "at most 1,024"
+unfoldable pub areSized : Lists → Bool
+areSized ls = eqb (length (ls .offsets)) (entriesIn ls) && (eqb (length (ls .counts)) (entriesIn ls) && leb (entriesIn ls) 1024)
+
+-- they are, and the bank to be written is good
 unfoldable pub isWritable : Lists → List ℕ → Bool
-isWritable ls «data» =
-    eqb (length (ls .offsets)) (entriesIn ls) && (eqb (length (ls .counts)) (entriesIn ls) && (leb (entriesIn ls) 1024 && isGood (bankOf ls «data»)))
+isWritable ls «data» = areSized ls && isGood (bankOf ls «data»)
 
 pub record Written : Type 0 where
   pub number : ℕ

@@ -1,11 +1,10 @@
 // A sound bank, written from lists of its entries' fields and its data.
 ghost use mathlib.Core.Path.{_≡_};
-ghost use mathlib.Core.Bool.{Bool};
-ghost use Prim.Native.Nat.{_+_, _*_, _≤_};
+ghost use Prim.Native.Nat.{_+_, _≤_};
 ghost use lib.ListN.{length};
-ghost use Rattle.little_endian.specs.Bytes.{each, Put};
-ghost use Rattle.bank.specs.Bank.{placeOf, isEntry, damageBelow, isNowhere};
-ghost use Rattle.bank_write.specs.Write.{lists, entryIn, entryBytes, headerBytes, bankOf, isWritable, writtenOf};
+ghost use Rattle.little_endian.specs.Bytes.{Put};
+ghost use Rattle.bank.specs.Bank.{placeOf, damageBelow, isNowhere};
+ghost use Rattle.bank_write.specs.Write.{lists, entryBytes, entriesBytes, headerBytes, isEntryIn, areSized, isWritable, writtenOf};
 use bank::Entry;
 use little_endian::put_half;
 use little_endian::put_word;
@@ -19,7 +18,7 @@ pub struct Written {
 // Whether each entry of the lists is good in a file of `size` bytes.
 fn are_entries(kinds: &[u16], offsets: &[u32], counts: &[u32], size: usize) -> bool
     requires { ⌜ (length (now kinds) ≤ 1024) × (length (now offsets) ≡ length (now kinds)) × (length (now counts) ≡ length (now kinds)) ⌝ }
-    ensures { λ r. ⌜ r ≡ isNowhere (damageBelow (λ n. isEntry (placeOf (length (now (kinds .entry)))) size n (entryIn (lists (now (kinds .entry)) (now (offsets .entry)) (now (counts .entry))) n)) (length (now (kinds .entry)))) ⌝ }
+    ensures { λ r. ⌜ r ≡ isNowhere (damageBelow (isEntryIn (lists (now (kinds .entry)) (now (offsets .entry)) (now (counts .entry))) size) (length (now (kinds .entry)))) ⌝ }
 {
     let end = bank::header_end(kinds.len());
     for n in 0..kinds.len() {
@@ -35,16 +34,26 @@ fn are_entries(kinds: &[u16], offsets: &[u32], counts: &[u32], size: usize) -> b
     true
 }
 
-// The bank's length, where it is good.
+fn are_sized(kinds: &[u16], offsets: &[u32], counts: &[u32]) -> bool
+    ensures { λ r. ⌜ r ≡ areSized (lists (now (kinds .entry)) (now (offsets .entry)) (now (counts .entry))) ⌝ }
+{
+    let count = kinds.len();
+    (offsets.len() == count) & ((counts.len() == count) & (count <= bank::MOST_ENTRIES))
+}
+
+// Whether the lists and the data make a good bank.
 fn is_writable(kinds: &[u16], offsets: &[u32], counts: &[u32], data: &[u8]) -> bool
     ensures { λ r. ⌜ r ≡ isWritable (lists (now (kinds .entry)) (now (offsets .entry)) (now (counts .entry))) (now («data» .entry)) ⌝ }
 {
-    let count = kinds.len();
-    let sized = (offsets.len() == count) & ((counts.len() == count) & (count <= bank::MOST_ENTRIES));
-    if !sized {
+    if !are_sized(kinds, offsets, counts) {
         return false;
     }
-    are_entries(kinds, offsets, counts, bank::header_end(count) + data.len())
+    are_entries(
+        kinds,
+        offsets,
+        counts,
+        bank::header_end(kinds.len()) + data.len(),
+    )
 }
 
 fn put_entry(out: &mut [u8], at: usize, kind: u16, offset: u32, count: u32)
@@ -56,15 +65,21 @@ fn put_entry(out: &mut [u8], at: usize, kind: u16, offset: u32, count: u32)
     put_word(out, at + 6, count);
 }
 
+fn put_entries(out: &mut [u8], kinds: &[u16], offsets: &[u32], counts: &[u32])
+    requires { ⌜ (length (now kinds) ≤ 1024) × (length (now offsets) ≡ length (now kinds)) × (length (now counts) ≡ length (now kinds)) × (placeOf (length (now kinds)) ≤ length (now out)) ⌝ }
+    ensures { λ _. ⌜ Put (entriesBytes (lists (now (kinds .entry)) (now (offsets .entry)) (now (counts .entry)))) (now (out .entry)) 2 (now (out .exit)) ⌝ }
+{
+    for n in 0..kinds.len() {
+        put_entry(out, 2 + n * 10, kinds[n], offsets[n], counts[n]);
+    }
+}
+
 fn put_header(out: &mut [u8], kinds: &[u16], offsets: &[u32], counts: &[u32])
     requires { ⌜ (length (now kinds) ≤ 1024) × (length (now offsets) ≡ length (now kinds)) × (length (now counts) ≡ length (now kinds)) × (placeOf (length (now kinds)) ≤ length (now out)) ⌝ }
     ensures { λ _. ⌜ Put (headerBytes (lists (now (kinds .entry)) (now (offsets .entry)) (now (counts .entry)))) (now (out .entry)) 0 (now (out .exit)) ⌝ }
 {
-    let count = kinds.len();
-    put_half(out, 0, count as u16);
-    for n in 0..count {
-        put_entry(out, 2 + n * 10, kinds[n], offsets[n], counts[n]);
-    }
+    put_half(out, 0, kinds.len() as u16);
+    put_entries(out, kinds, offsets, counts);
 }
 
 fn put_data(out: &mut [u8], at: usize, data: &[u8])
@@ -77,13 +92,7 @@ fn put_data(out: &mut [u8], at: usize, data: &[u8])
 }
 
 // Writes the count, the entries and the data. The number is 9 where they are no good bank, and 24 where the buffer is shorter than the bank.
-pub fn write(
-    kinds: &[u16],
-    offsets: &[u32],
-    counts: &[u32],
-    data: &[u8],
-    out: &mut [u8],
-) -> Written
+pub fn write(kinds: &[u16], offsets: &[u32], counts: &[u32], data: &[u8], out: &mut [u8]) -> Written
     ensures { λ r. ⌜ record { number = r .number; length = r .length; out = now (out .exit) } ≡ writtenOf (lists (now (kinds .entry)) (now (offsets .entry)) (now (counts .entry))) (now («data» .entry)) (now (out .entry)) ⌝ }
 {
     if !is_writable(kinds, offsets, counts, data) {
@@ -102,8 +111,5 @@ pub fn write(
     }
     put_header(out, kinds, offsets, counts);
     put_data(out, end, data);
-    Written {
-        number: 0,
-        length,
-    }
+    Written { number: 0, length }
 }
