@@ -29,6 +29,7 @@ pub struct Fields {
 }
 
 // What a lookup finds: in which bank, the sound's own entry, and where its bytes are.
+#[repr(C)]
 pub struct Found {
     pub number: u8,
     pub house: bool,

@@ -1,15 +1,13 @@
 -- What the writer accepts is read back: the same entries and the same sounds, from the bank and from the buffer that it begins. Assumes nothing.
 use mathlib.Core.Path.{_≡_, refl, sym, ap, subst, _∙_}
-use mathlib.Core.Bool.{Bool, true, false, cond, _&&_}
+use mathlib.Core.Bool.{Bool, true, false, cond}
 use mathlib.Core.List.{List, [], _++_, append-nil}
-use Prim.Native.Nat.{ℕ, _+_, _*_, _≤_, _<_}
+use Prim.Native.Nat.{ℕ, _*_, _<_}
 use native.Mathlib.Omega.{arith}
-use borrow.Author.Tests.{lt-ltb, le-ltb}
-use lib.Dec.{eqb, leb}
+use lib.Dec.{leb}
 use lib.ListN.{length, take, drop}
 use lib.Seq.{take-append-seam}
-use Rattle.bank.specs.declared.Found.{Found}
-use Rattle.bank.specs.Bank.{countOf, placeOf, entryAt, isGood, soundOf, foundIn, foundOf, partOf, lookupOf}
+use Rattle.bank.specs.Bank.{countOf, placeOf, entryAt, isGood, soundOf, foundIn, partOf}
 use Rattle.bank.proofs.Laws.{good-is}
 use Rattle.bank.proofs.Leads.{leads-same, sound-below, sound-lies}
 use Rattle.bank.proofs.Finds.{find-title, find-house}
@@ -19,7 +17,7 @@ use Rattle.bank_write.proofs.Bytes.{writable-good, written-count, writt
 
 -- a good bank of these entries, with or without bytes past it
 module _ (ls : Lists) (bank rest : List ℕ) (g : isGood bank ≡ true) (c : countOf bank ≡ entriesIn ls)
-  (s : (n : ℕ) → n < entriesIn ls → entryAt bank n ≡ entryIn ls n) where
+    (s : (n : ℕ) → n < entriesIn ls → entryAt bank n ≡ entryIn ls n) where
   abbrev file : List ℕ
   file = bank ++ rest
 

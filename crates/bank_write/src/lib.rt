@@ -10,6 +10,7 @@ use little_endian::put_half;
 use little_endian::put_word;
 
 // The number, and the length of the bank.
+#[repr(C)]
 pub struct Written {
     pub number: u8,
     pub length: usize,

@@ -10,31 +10,31 @@ is-writable-requires : tie.Need-is-writable-requires
 is-writable-requires c κs = search needs
 
 returns : tie.Need-returns
-returns c = 
+returns c =
     let z = c .before .before .before .before .before .before .before in
     write-9 (lists (z .args .kinds .now) (z .args .offsets .now) (z .args .counts .now)) _ _ (c .before .is-writable .ensures) (c .if1 .taken)
 
 header-end-requires : tie.Need-header-end-requires
-header-end-requires c κs = 
+header-end-requires c κs =
     let z = c .before .before .before .before .before .before .before in
     let s = write-sized (lists (z .args .kinds .now) (z .args .offsets .now) (z .args .counts .now)) _ [] (c .before .is-writable .ensures) (c .if1 .left) in
     omega (arith, s .most)
 
 add-length : tie.Need-add-length
-add-length c = 
+add-length c =
     let d = c .before in
     let z = d .before .before .before .before .before .before .before in
     let s = write-sized (lists (z .args .kinds .now) (z .args .offsets .now) (z .args .counts .now)) _ [] (d .before .is-writable .ensures) (d .if1 .left) in
     record { fits = omega (arith, s .most, c .header-end .ensures, z .good .1 .1 .1 .0 .0) }
 
 returns-2 : tie.Need-returns-2
-returns-2 c = 
+returns-2 c =
     let d = c .before .before in
     let z = d .before .before .before .before .before .before .before in
     write-24 (lists (z .args .kinds .now) (z .args .offsets .now) (z .args .counts .now)) _ _ (d .before .is-writable .ensures) (d .if1 .left) (c .before .header-end .ensures) (c .if2 .taken)
 
 put-header-requires : tie.Need-put-header-requires
-put-header-requires c κs = 
+put-header-requires c κs =
     let a = c .before .before in
     let d = a .before in
     let z = d .before .before .before .before .before .before .before in
@@ -48,7 +48,7 @@ same-length : tie.Need-same-length
 same-length c = search needs
 
 returns-3 : tie.Need-returns-3
-returns-3 c = 
+returns-3 c =
     let p = c .before .before .before .before .before .before in
     let a = p .before .before .before in
     let d = a .before in
