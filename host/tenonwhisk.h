@@ -7,9 +7,10 @@
  *   marks   L/16 bytes: bit h % 8 of byte h / 8 says that the halfword at address 2h is loaded; zero them to begin with
  *
  * A slice is a pointer and its number of elements, not bytes. The slices of one call must not overlap. No pointer may
- * be NULL, not even with length 0. The library checks everything else: wrong lengths, damaged states and bad arguments
- * are refused. A refused call returns its number and zero results, and leaves every lent byte as it was. There is one
- * exception: for a size other than the two, tenonwhisk_make returns 1 and still writes the state for 65,536.
+ * be NULL, not even with length 0. The library checks everything else: wrong lengths, damaged states and banks, and bad
+ * arguments are refused. A refused call returns its number and zero results, and leaves every lent byte as it was.
+ * There is one exception: for a size other than the two, tenonwhisk_make returns 1 and still writes the state for
+ * 65,536.
  *
  * Saved states. A state is plain bytes: copy it, save it, send it elsewhere, with RAM and marks beside it. Its first
  * four bytes name its layout (docs/STATE.md). A library with another layout refuses it with 2; it never
@@ -216,6 +217,108 @@ static inline const uint8_t *tenonwhisk_block_view(const uint8_t *state, size_t 
 {
     return tenonwhisk_view_number(state, state_len, ram, ram_len, address) == TENONWHISK_DONE ? ram + address : NULL;
 }
+
+/* ---- sound banks */
+
+/* A sound bank is one file of sounds, with every number low byte first:
+ *
+ *   header   the number of entries (2 bytes, at most 1,024), then for each entry its kind (2 bytes), its offset and
+ *            its count (4 bytes each)
+ *   data     all that follows
+ *
+ * Entries are numbered from 0, and each is one of two:
+ *
+ *   sound    kind 0: count blocks of 16 bytes, at least one, from offset on. The offset is counted from the bank's
+ *            start and is a multiple of 16. The sound lies after the header and inside the bank.
+ *   alias    kind 1: another number for an entry that stands before it, a sound or an alias. Its offset is the number
+ *            of that entry, and its count is 0.
+ *
+ * Anything else is damage, and so are more entries and a bank that ends inside its header. Sounds may overlap and stand
+ * in any order, and bytes may belong to none. A bank of no entries is good; a bank of no bytes is damaged.
+ *
+ * These calls need no state. A bank that is looked at is only read, and the two banks of one call may overlap. */
+enum tenonwhisk_bank_kind { TENONWHISK_BANK_SOUND = 0, TENONWHISK_BANK_ALIAS = 1 };
+
+/* The most entries of a bank. */
+#define TENONWHISK_BANK_ENTRIES 1024
+
+/* The arguments bank and bank_len of a bank of no entries, for a host that has only one bank. */
+#define TENONWHISK_NO_BANK tenonwhisk_no_bank(), 2
+
+static inline const uint8_t *tenonwhisk_no_bank(void)
+{
+    static const uint8_t none[2] = {0, 0};
+    return none;
+}
+
+struct tenonwhisk_bank_found {
+    uint8_t number;
+    bool house;     /* the sound stands in the house's bank; else in the title's */
+    uint32_t entry; /* the sound's own entry: the one that was asked for, or the one that its aliases lead to */
+    size_t offset;  /* of its first byte, from the bank's start */
+    size_t length;  /* in bytes, 16 for each block */
+};
+
+/* Finds a sound by the number of its entry: in the title's bank or, if that has no entry with this number, in the
+ * house's. An alias leads to a sound of its own bank. Both banks must be good, also the one that is not needed.
+ * Numbers: 0, 9, 10. */
+struct tenonwhisk_bank_found tenonwhisk_bank_find(const uint8_t *title, size_t title_len, const uint8_t *house,
+                                                  size_t house_len, uint32_t number);
+
+/* Returns the first byte of the sound that tenonwhisk_bank_find finds, which stands in the host's own bank, and writes
+ * its length in bytes. Returns NULL and writes 0 if refused. */
+static inline const uint8_t *tenonwhisk_bank_lookup(const uint8_t *title, size_t title_len, const uint8_t *house,
+                                                    size_t house_len, uint32_t number, size_t *length)
+{
+    struct tenonwhisk_bank_found found = tenonwhisk_bank_find(title, title_len, house, house_len, number);
+    *length = found.length;
+    return found.number == TENONWHISK_DONE ? (found.house ? house : title) + found.offset : NULL;
+}
+
+enum tenonwhisk_bank_place {
+    TENONWHISK_BANK_GOOD = 0,
+    TENONWHISK_BANK_IN_HEADER = 1, /* no number of entries, more than 1,024 entries, or fewer bytes than they take */
+    TENONWHISK_BANK_AT_ENTRY = 2
+};
+
+struct tenonwhisk_bank_damage {
+    uint8_t place;  /* an enum tenonwhisk_bank_place */
+    uint32_t entry; /* the first damaged entry, if the place is TENONWHISK_BANK_AT_ENTRY; else 0 */
+};
+
+/* Says whether a bank is damaged, and where first. */
+struct tenonwhisk_bank_damage tenonwhisk_bank_check(const uint8_t *bank, size_t bank_len);
+
+struct tenonwhisk_bank_fields {
+    uint8_t number;
+    uint16_t kind;
+    uint32_t offset;
+    uint32_t count;
+};
+
+/* Reads entry n as it stands in the bank, good or damaged, so that a tool can list a damaged bank too. Numbers: 0; 9 if
+ * the header is damaged; 10 if the bank has no entry n. */
+struct tenonwhisk_bank_fields tenonwhisk_bank_entry(const uint8_t *bank, size_t bank_len, uint32_t n);
+
+struct tenonwhisk_bank_written {
+    uint8_t number;
+    size_t length; /* of the bank, in bytes */
+};
+
+/* Returns the length of a bank with so many entries and bytes of data: what tenonwhisk_bank_write needs room for. */
+static inline size_t tenonwhisk_bank_length(size_t entries, size_t data_len)
+{
+    return 2 + 10 * entries + data_len;
+}
+
+/* Writes a bank to out: its header, with entry k made of kinds[k], offsets[k] and counts[k], then data as it is. It
+ * adds no padding: data begins with the bytes between the header and the first sound. Bytes of out past the bank stay.
+ * Numbers: 0; 9 if the three lists have different lengths or more than 1,024 entries, or if the bank would be damaged;
+ * 24 if out_len is less than the bank's length. */
+struct tenonwhisk_bank_written tenonwhisk_bank_write(const uint16_t *kinds, size_t kinds_len, const uint32_t *offsets,
+                                                     size_t offsets_len, const uint32_t *counts, size_t counts_len,
+                                                     const uint8_t *data, size_t data_len, uint8_t *out,
+                                                     size_t out_len);
 
 #ifdef __cplusplus
 }

@@ -44,6 +44,35 @@ pub struct Ran {
     pub doubt: usize,
 }
 
+#[repr(C)]
+pub struct Found {
+    pub number: u8,
+    pub house: bool,
+    pub entry: u32,
+    pub offset: usize,
+    pub length: usize,
+}
+
+#[repr(C)]
+pub struct Damage {
+    pub place: u8,
+    pub entry: u32,
+}
+
+#[repr(C)]
+pub struct Fields {
+    pub number: u8,
+    pub kind: u16,
+    pub offset: u32,
+    pub count: u32,
+}
+
+#[repr(C)]
+pub struct Written {
+    pub number: u8,
+    pub length: usize,
+}
+
 #[rustfmt::skip]
 unsafe extern "C" {
     fn tenonwhisk_make(size: u32, state: *mut u8, state_len: usize) -> u8;
@@ -78,6 +107,15 @@ unsafe extern "C" {
     fn tenonwhisk_view_number(
         state: *const u8, state_len: usize, ram: *const u8, ram_len: usize, address: u32,
     ) -> u8;
+    fn tenonwhisk_bank_find(
+        title: *const u8, title_len: usize, house: *const u8, house_len: usize, number: u32,
+    ) -> Found;
+    fn tenonwhisk_bank_check(bank: *const u8, bank_len: usize) -> Damage;
+    fn tenonwhisk_bank_entry(bank: *const u8, bank_len: usize, n: u32) -> Fields;
+    fn tenonwhisk_bank_write(
+        kinds: *const u16, kinds_len: usize, offsets: *const u32, offsets_len: usize,
+        counts: *const u32, counts_len: usize, data: *const u8, data_len: usize, out: *mut u8, out_len: usize,
+    ) -> Written;
 }
 
 pub fn make(size: u32, state: &mut [u8]) -> u8 {
@@ -217,4 +255,37 @@ pub fn run_floats(
 pub fn view_number(state: &[u8], ram: &[u8], address: u32) -> u8 {
     // SAFETY: pointers and lengths are those of slices, which are only read.
     unsafe { tenonwhisk_view_number(state.as_ptr(), state.len(), ram.as_ptr(), ram.len(), address) }
+}
+
+pub fn bank_find(title: &[u8], house: &[u8], number: u32) -> Found {
+    // SAFETY: pointers and lengths are those of slices, which are only read.
+    unsafe { tenonwhisk_bank_find(title.as_ptr(), title.len(), house.as_ptr(), house.len(), number) }
+}
+
+pub fn bank_check(bank: &[u8]) -> Damage {
+    // SAFETY: the pointer and the length are those of a slice, which is only read.
+    unsafe { tenonwhisk_bank_check(bank.as_ptr(), bank.len()) }
+}
+
+pub fn bank_entry(bank: &[u8], n: u32) -> Fields {
+    // SAFETY: the pointer and the length are those of a slice, which is only read.
+    unsafe { tenonwhisk_bank_entry(bank.as_ptr(), bank.len(), n) }
+}
+
+pub fn bank_write(kinds: &[u16], offsets: &[u32], counts: &[u32], data: &[u8], out: &mut [u8]) -> Written {
+    // SAFETY: pointers and lengths are those of slices; `out`, which is written, overlaps no other.
+    unsafe {
+        tenonwhisk_bank_write(
+            kinds.as_ptr(),
+            kinds.len(),
+            offsets.as_ptr(),
+            offsets.len(),
+            counts.as_ptr(),
+            counts.len(),
+            data.as_ptr(),
+            data.len(),
+            out.as_mut_ptr(),
+            out.len(),
+        )
+    }
 }
