@@ -63,6 +63,9 @@ enum tenonwhisk_number {
     TENONWHISK_MODE = 6,        /* another transfer mode is applied */
     TENONWHISK_COUNT = 7,       /* a transfer of no halfwords, or of more than 32 */
     TENONWHISK_ADDRESS = 8,     /* the block address is not a multiple of 8, or is beyond L-16 */
+    TENONWHISK_BANK = 9,        /* a bank is damaged, or the entries handed in would make a damaged one */
+    TENONWHISK_NO_ENTRY = 10,   /* no bank that was handed in has an entry with this number */
+    TENONWHISK_ROOM = 24,       /* the buffer is shorter than the bank to be written */
     TENONWHISK_BUFFERS = 25     /* the buffers of a run do not hold whole pairs, or have different lengths */
 };
 
@@ -90,6 +93,12 @@ static inline const char *tenonwhisk_words(uint8_t number)
         return "a transfer moves 1 to 32 halfwords";
     case TENONWHISK_ADDRESS:
         return "no block begins at this address: it is not a multiple of 8, or fewer than 16 bytes follow";
+    case TENONWHISK_BANK:
+        return "a sound bank is damaged, or the entries handed in would make a damaged one";
+    case TENONWHISK_NO_ENTRY:
+        return "there is no entry with this number";
+    case TENONWHISK_ROOM:
+        return "the buffer is shorter than the sound bank to be written";
     case TENONWHISK_BUFFERS:
         return "the buffers do not hold whole pairs, or have different lengths";
     default:

@@ -609,7 +609,7 @@ static void test_words(void)
     check(strcmp(tenonwhisk_words(TENONWHISK_DONE), "done") == 0, "0 is done");
     for (unsigned number = 0; number <= UINT8_MAX; number++) {
         const char *words = tenonwhisk_words((uint8_t)number);
-        bool given = number <= TENONWHISK_ADDRESS || number == TENONWHISK_BUFFERS;
+        bool given = number <= TENONWHISK_NO_ENTRY || number == TENONWHISK_ROOM || number == TENONWHISK_BUFFERS;
         check((strcmp(words, none) != 0) == given, "words of %u", number);
         for (unsigned other = 0; given && other < number; other++)
             check(strcmp(words, tenonwhisk_words((uint8_t)other)) != 0, "%u and %u differ", number, other);

@@ -35,7 +35,7 @@ pub const MOST_ENTRIES: usize = 1024;
 /// A bank of no entries, for a host that has only one bank.
 pub const EMPTY: &[u8] = &[0, 0];
 
-/// The length of a bank with so many entries and bytes of data: what [`write`] needs room for.
+/// The length of a bank with so many entries and bytes of data: what [`write()`] needs room for.
 pub const fn length(entries: usize, data: usize) -> usize {
     2 + 10 * entries + data
 }

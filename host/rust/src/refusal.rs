@@ -23,6 +23,12 @@ pub enum Refusal {
     Count = 7,
     /// 8: the block address is not a multiple of 8, or fewer than 16 bytes follow.
     Address = 8,
+    /// 9: a sound bank is damaged, or the entries handed in would make a damaged one.
+    Bank = 9,
+    /// 10: no bank that was handed in has an entry with this number.
+    NoEntry = 10,
+    /// 24: the buffer is shorter than the sound bank to be written.
+    Room = 24,
     /// 25: the buffers of a run do not hold whole pairs, or have different lengths.
     Buffers = 25,
 }
@@ -45,6 +51,9 @@ impl Refusal {
             6 => Refusal::Mode,
             7 => Refusal::Count,
             8 => Refusal::Address,
+            9 => Refusal::Bank,
+            10 => Refusal::NoEntry,
+            24 => Refusal::Room,
             25 => Refusal::Buffers,
             _ => unreachable!("the library gives no other number"),
         })
@@ -71,6 +80,9 @@ impl fmt::Display for Refusal {
             Refusal::Address => {
                 "no block begins at this address: it is not a multiple of 8, or fewer than 16 bytes follow"
             }
+            Refusal::Bank => "a sound bank is damaged, or the entries handed in would make a damaged one",
+            Refusal::NoEntry => "there is no entry with this number",
+            Refusal::Room => "the buffer is shorter than the sound bank to be written",
             Refusal::Buffers => "the buffers do not hold whole pairs, or have different lengths",
         })
     }

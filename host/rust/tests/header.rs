@@ -1,10 +1,10 @@
 //! What the crate and `tenonwhisk.h` say twice.
 
-use tenonwhisk::{Refusal, State, VERSION};
+use tenonwhisk::{bank, Refusal, State, VERSION};
 
 const HEADER: &str = include_str!("../../tenonwhisk.h");
 
-const REFUSALS: [(&str, Refusal); 9] = [
+const REFUSALS: [(&str, Refusal); 12] = [
     ("MEMORY", Refusal::Memory),
     ("STATE", Refusal::State),
     ("OFFSET", Refusal::Offset),
@@ -13,6 +13,9 @@ const REFUSALS: [(&str, Refusal); 9] = [
     ("MODE", Refusal::Mode),
     ("COUNT", Refusal::Count),
     ("ADDRESS", Refusal::Address),
+    ("BANK", Refusal::Bank),
+    ("NO_ENTRY", Refusal::NoEntry),
+    ("ROOM", Refusal::Room),
     ("BUFFERS", Refusal::Buffers),
 ];
 
@@ -50,4 +53,11 @@ fn version() {
 #[test]
 fn length_of_a_state() {
     assert_eq!(between("#define TENONWHISK_STATE_BYTES ", "\n"), State::BYTES.to_string());
+}
+
+#[test]
+fn banks() {
+    assert_eq!(between("#define TENONWHISK_BANK_ENTRIES ", "\n"), bank::MOST_ENTRIES.to_string());
+    assert_eq!(between("TENONWHISK_BANK_SOUND = ", ","), bank::Entry::SOUND.to_string());
+    assert_eq!(between("TENONWHISK_BANK_ALIAS = ", " "), bank::Entry::ALIAS.to_string());
 }
