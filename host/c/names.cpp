@@ -1,9 +1,9 @@
-// The interface in C++: types without the keyword struct, a run without CD, a refusal's words.
+// The interface in C++: types without the keyword struct, a run without CD, a refusal's words, a sound of a bank.
 #include "tenonwhisk.h"
 
 #include <cstring>
 
-int main()
+static bool chip()
 {
     static uint8_t state[TENONWHISK_STATE_BYTES], ram[65536], marks[sizeof ram / 16];
     static int16_t out[20];
@@ -12,8 +12,29 @@ int main()
         tenonwhisk_run(state, sizeof state, ram, sizeof ram, marks, sizeof marks, TENONWHISK_NO_CD, out, 20);
     tenonwhisk_reading reading = tenonwhisk_read(state, sizeof state, 0x200);
     tenonwhisk_overview overview = tenonwhisk_status(state, sizeof state);
-    bool good = made == TENONWHISK_DONE && ran.number == TENONWHISK_DONE && overview.tick == ran.count &&
-                overview.size == sizeof ram && reading.number == TENONWHISK_OFFSET &&
-                std::strcmp(tenonwhisk_words(reading.number), "there is no register at this offset") == 0;
-    return good ? 0 : 1;
+    return made == TENONWHISK_DONE && ran.number == TENONWHISK_DONE && overview.tick == ran.count &&
+           overview.size == sizeof ram && reading.number == TENONWHISK_OFFSET &&
+           std::strcmp(tenonwhisk_words(reading.number), "there is no register at this offset") == 0;
+}
+
+static bool bank()
+{
+    const uint16_t kinds[] = {TENONWHISK_BANK_SOUND, TENONWHISK_BANK_ALIAS};
+    const uint32_t offsets[] = {32, 0}, counts[] = {1, 0};
+    uint8_t data[26] = {}, title[48];
+    tenonwhisk_bank_written written =
+        tenonwhisk_bank_write(kinds, 2, offsets, 2, counts, 2, data, sizeof data, title, sizeof title);
+    tenonwhisk_bank_damage damage = tenonwhisk_bank_check(title, sizeof title);
+    tenonwhisk_bank_fields fields = tenonwhisk_bank_entry(title, sizeof title, 1);
+    tenonwhisk_bank_found found = tenonwhisk_bank_find(title, sizeof title, TENONWHISK_NO_BANK, 1);
+    size_t length;
+    const uint8_t *sound = tenonwhisk_bank_lookup(title, sizeof title, TENONWHISK_NO_BANK, 1, &length);
+    return written.length == tenonwhisk_bank_length(2, sizeof data) && damage.place == TENONWHISK_BANK_GOOD &&
+           fields.kind == TENONWHISK_BANK_ALIAS && found.number == TENONWHISK_DONE && found.entry == 0 &&
+           sound == title + 32 && length == 16;
+}
+
+int main()
+{
+    return chip() && bank() ? 0 : 1;
 }

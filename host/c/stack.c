@@ -14,7 +14,7 @@
 #include <string.h>
 
 enum { STACK_WORDS = 1 << 15, STACK_BYTES = STACK_WORDS * sizeof(uint32_t), ALIGNMENT = 4096 };
-enum { MAKE = CALLS, ALL_CALLS };
+enum { MAKE = CALLS, CALLS_ON_STATES, BANK_FIND = CALLS_ON_STATES, BANK_CHECK, BANK_ENTRY, BANK_WRITE, ALL_CALLS };
 
 static uint32_t *stack;
 static size_t largest[ALL_CALLS];
@@ -87,7 +87,17 @@ static struct outcome run_make(const struct lent *lent)
 
 static const char *name_of(int which)
 {
-    return which == MAKE ? "make" : calls[which].name;
+    static const char *const others[] = {"make", "bank_find", "bank_check", "bank_entry", "bank_write"};
+    return which < CALLS ? calls[which].name : others[which - CALLS];
+}
+
+static void measure_job(int which, struct job *job)
+{
+    size_t used = stack_used(job);
+    if (used > largest[which])
+        largest[which] = used;
+    check(used <= TENONWHISK_STACK_BYTES, "%s uses %zu bytes of stack", name_of(which), used);
+    runs++;
 }
 
 static void measure(int which, const struct lent *lent)
@@ -95,18 +105,14 @@ static void measure(int which, const struct lent *lent)
     struct lent copy;
     lent_copy(&copy, lent);
     struct job job = {.run = which == MAKE ? run_make : calls[which].run, .lent = &copy};
-    size_t used = stack_used(&job);
-    if (used > largest[which])
-        largest[which] = used;
+    measure_job(which, &job);
     check(which == MAKE || job.number == expected_number(&calls[which], lent), "%s gives its number", name_of(which));
-    check(used <= TENONWHISK_STACK_BYTES, "%s uses %zu bytes of stack", name_of(which), used);
-    runs++;
     lent_free(&copy);
 }
 
 static void measure_all(const struct lent *lent)
 {
-    for (int which = 0; which < ALL_CALLS; which++)
+    for (int which = 0; which < CALLS_ON_STATES; which++)
         measure(which, lent);
 }
 
@@ -184,6 +190,80 @@ static void measure_fresh(uint32_t size)
     lent_free(&lent);
 }
 
+/* ---- sound banks, which need no state */
+
+enum { ENTRIES = TENONWHISK_BANK_ENTRIES, SOUND_AT = 10256 };
+
+/* The largest bank: a sound, and a chain of 1,023 aliases that lead to it. */
+static struct {
+    uint16_t kinds[ENTRIES];
+    uint32_t offsets[ENTRIES];
+    uint32_t counts[ENTRIES];
+    uint8_t data[SOUND_AT + 16 - (2 + 10 * ENTRIES)];
+    uint8_t bytes[SOUND_AT + 16];
+    size_t length;
+} bank;
+
+static struct outcome run_bank_find(const struct lent *lent)
+{
+    (void)lent;
+    uint8_t number = tenonwhisk_bank_find(TENONWHISK_NO_BANK, bank.bytes, bank.length, ENTRIES - 1).number;
+    return (struct outcome){number, true};
+}
+
+static struct outcome run_bank_check(const struct lent *lent)
+{
+    (void)lent;
+    return (struct outcome){tenonwhisk_bank_check(bank.bytes, bank.length).place, true};
+}
+
+static struct outcome run_bank_entry(const struct lent *lent)
+{
+    (void)lent;
+    return (struct outcome){tenonwhisk_bank_entry(bank.bytes, bank.length, ENTRIES - 1).number, true};
+}
+
+static struct outcome run_bank_write(const struct lent *lent)
+{
+    (void)lent;
+    struct tenonwhisk_bank_written written =
+        tenonwhisk_bank_write(bank.kinds, ENTRIES, bank.offsets, ENTRIES, bank.counts, ENTRIES, bank.data,
+                              sizeof bank.data, bank.bytes, bank.length);
+    return (struct outcome){written.number, true};
+}
+
+static void measure_bank(int which, struct outcome (*run)(const struct lent *lent), uint8_t number)
+{
+    struct job job = {.run = run};
+    measure_job(which, &job);
+    check(job.number == number, "%s gives %d, not %d", name_of(which), job.number, number);
+}
+
+static void measure_banks(void)
+{
+    bank.offsets[0] = SOUND_AT;
+    bank.counts[0] = 1;
+    for (uint32_t n = 1; n < ENTRIES; n++) {
+        bank.kinds[n] = TENONWHISK_BANK_ALIAS;
+        bank.offsets[n] = n - 1;
+    }
+    bank.length = sizeof bank.bytes - 1;
+    measure_bank(BANK_WRITE, run_bank_write, 24);
+    bank.length = sizeof bank.bytes;
+    measure_bank(BANK_WRITE, run_bank_write, 0);
+    measure_bank(BANK_FIND, run_bank_find, 0);
+    measure_bank(BANK_CHECK, run_bank_check, TENONWHISK_BANK_GOOD);
+    measure_bank(BANK_ENTRY, run_bank_entry, 0);
+    bank.counts[ENTRIES - 1] = 1;
+    measure_bank(BANK_WRITE, run_bank_write, 9);
+    bank.length = 2 + 10 * ENTRIES;
+    measure_bank(BANK_FIND, run_bank_find, 9);
+    measure_bank(BANK_CHECK, run_bank_check, TENONWHISK_BANK_AT_ENTRY);
+    bank.length = 1;
+    measure_bank(BANK_CHECK, run_bank_check, TENONWHISK_BANK_IN_HEADER);
+    measure_bank(BANK_ENTRY, run_bank_entry, 9);
+}
+
 static void print_largest(void)
 {
     printf("bytes of stack, in %lu calls:\n", runs);
@@ -202,6 +282,7 @@ int main(void)
         measure_playing(sizes[k], 1, 0xC0D5);
         measure_playing(sizes[k], 2, 0xC030);
     }
+    measure_banks();
     free(stack);
     print_largest();
     return all_passed() ? EXIT_SUCCESS : EXIT_FAILURE;

@@ -3,6 +3,7 @@
 #include "check.h"
 #include "lent.h"
 #include "scenes.h"
+#include "test_banks.h"
 
 #include <stdio.h>
 #include <stdlib.h>
@@ -644,5 +645,6 @@ int main(int argc, char **argv)
     test_33_halfwords();
     test_block_at_end();
     test_words();
+    test_banks();
     return all_passed() ? EXIT_SUCCESS : EXIT_FAILURE;
 }
