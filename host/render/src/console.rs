@@ -1,9 +1,11 @@
-//! Messages on standard error, and the progress if it is a terminal.
+//! Messages on standard error, the progress if it is a terminal, and text on standard output.
 
 use std::io::{self, IsTerminal, Write};
 use std::time::{Duration, Instant};
 
+use crate::failure::Failure;
 use crate::wav::RATE;
+use crate::{files, system};
 
 const BETWEEN_PROGRESS: Duration = Duration::from_millis(200);
 
@@ -12,6 +14,21 @@ pub struct Console {
     /// The width of the progress that the terminal shows, or 0.
     shown: usize,
     next_progress: Instant,
+}
+
+/// Writes to standard output.
+pub fn print(text: &str) -> Result<(), Failure> {
+    let mut output = io::stdout();
+    match output.write_all(text.as_bytes()).and_then(|()| output.flush()) {
+        Ok(()) if system::was_closed(1) => Err(Failure::writing(files::STANDARD_OUTPUT, &files::is_closed())),
+        written => written.map_err(|error| Failure::writing(files::STANDARD_OUTPUT, &error)),
+    }
+}
+
+impl Default for Console {
+    fn default() -> Console {
+        Console::new()
+    }
 }
 
 impl Console {

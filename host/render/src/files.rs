@@ -60,6 +60,11 @@ pub fn is_a_directory() -> io::Error {
     io::Error::from_raw_os_error(EISDIR)
 }
 
+/// The error for a standard stream that was closed when the program started.
+pub fn is_closed() -> io::Error {
+    io::Error::other("it is closed")
+}
+
 #[cfg(test)]
 mod tests {
     use super::*;

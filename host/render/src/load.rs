@@ -1,4 +1,4 @@
-//! Loads a file to sound RAM through the chip's own transfers, so that the marks tell the truth.
+//! Moves bytes to sound RAM through the chip's own transfers, so that the marks tell the truth.
 
 use std::fs::{self, File};
 use std::io::Read;
@@ -58,6 +58,12 @@ impl Loader {
 
 fn move_in(spu: &mut Spu, address: u32, bytes: &[u8]) -> Result<(), Refusal> {
     spu.write(TRANSFER_ADDRESS, (address / UNIT_BYTES) as u16)?;
+    transfer(spu, bytes)
+}
+
+/// Moves an even number of bytes to the transfer address. What refuses one of the transfers refuses the first, so a
+/// refused move moves nothing.
+pub fn transfer(spu: &mut Spu, bytes: &[u8]) -> Result<(), Refusal> {
     let halfwords: Vec<u16> = bytes.chunks_exact(2).map(|pair| u16::from_le_bytes([pair[0], pair[1]])).collect();
     halfwords.chunks(MOST_HALFWORDS).try_for_each(|part| spu.transfer_in(part).map(|_| ()))
 }

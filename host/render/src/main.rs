@@ -3,7 +3,8 @@
 //! `render --help` describes options, script lines and exit status. In short:
 //!
 //! - A script is what the program `bench` reads, and more: `w OFFSET VALUE` writes a register, `s V ..` moves halfwords
-//!   to sound RAM, `t N` sounds for N ticks, `l ADDRESS FILE` loads a file to sound RAM, and `#` begins a comment.
+//!   to sound RAM, `t N` sounds for N ticks, `l ADDRESS FILE` loads a file to sound RAM, `b NUMBER` moves a sound of a
+//!   sound bank there, and `#` begins a comment.
 //! - The program reports a line that is bad or refused, and leaves it out. It also reports the first tick from which the
 //!   sound may rest on memory that nobody loaded.
 //! - The sound goes to a temporary file beside the target, which takes the target's place when it is whole. So a run that
@@ -11,40 +12,16 @@
 //!   one that it also reads.
 //! - Standard output, devices and FIFOs get the sound while it is rendered.
 //! - The exit status is a sum: 1 the sound is in doubt, 2 lines were bad or refused, 4 failed.
-//!
-//! [`options`] reads the command line; [`source`] and [`target`] find out what its names stand for. [`rendering`] leads a
-//! run: [`script`], [`cd`] with [`wav_in`], and [`load`] read, and [`output`] with [`temporary`] and [`wav`] writes.
-//! [`console`], [`findings`], [`failure`] and [`words`] make messages, and [`system`] handles signals.
 
 #![deny(unsafe_code)]
 
-mod cd;
-mod console;
-mod failure;
-mod files;
-mod findings;
-mod load;
-mod options;
-mod output;
-mod rendering;
-mod script;
-mod source;
-#[allow(unsafe_code)]
-mod system;
-mod target;
-mod temporary;
-mod wav;
-mod wav_in;
-mod words;
-
-use std::io::{self, Write};
 use std::process::ExitCode;
 
-use console::Console;
-use failure::Failure;
-use findings::{Findings, FAILED};
-use options::{Options, Request};
-use rendering::Rendering;
+use tenonwhisk_render::console::{self, Console};
+use tenonwhisk_render::findings::{Findings, FAILED};
+use tenonwhisk_render::options::{self, Options, Request};
+use tenonwhisk_render::rendering::Rendering;
+use tenonwhisk_render::{system, target};
 
 fn main() -> ExitCode {
     system::watch_signals();
@@ -62,15 +39,10 @@ fn main() -> ExitCode {
 }
 
 fn print(text: &str, console: &mut Console) -> u8 {
-    let mut output = io::stdout();
-    match output.write_all(text.as_bytes()).and_then(|()| output.flush()) {
-        Ok(()) if !system::was_closed(1) => 0,
-        Ok(()) => {
-            console.line("cannot write standard output: it is closed");
-            FAILED
-        }
-        Err(error) => {
-            console.line(&Failure::writing(files::STANDARD_OUTPUT, &error).to_string());
+    match console::print(text) {
+        Ok(()) => 0,
+        Err(failure) => {
+            console.line(&failure.to_string());
             FAILED
         }
     }

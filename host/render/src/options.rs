@@ -18,6 +18,8 @@ Options, before or after the names:
   --ram 512       KiB of sound RAM: 512 as in the console (the default), or 64
   --cd FILE.wav   play this file as the CD input from tick 0 on, and silence after its end
                   (16 bits, stereo, 44,100 Hz, PCM)
+  --title FILE    the title's sound bank, for lines b
+  --house FILE    the house's sound bank: lines b take what the title's bank has no entry for from here
   -h, --help      print this text
   --version       print the version
   --              what follows is a name, even if it begins with -
@@ -27,11 +29,15 @@ Lines of a script:
   s V ..          move halfwords to sound RAM at the transfer address (hex, 1 to 4 digits)
   t N             sound for N ticks of 1/44100 s (decimal, up to 65535)
   l ADDRESS FILE  load a file's bytes to sound RAM at an address (hex, 1 to 5 digits, a multiple of 8)
+  b NUMBER        move the sound of this number from the sound banks to the transfer address (decimal)
   # ..            a comment; blank lines are skipped too
 
 Spaces, tabs and CR separate fields. FILE is the rest of the line, so its name may hold spaces. A relative
 FILE is looked for beside the script, or in the current folder if the script is standard input or a pipe. A
 load takes no time, works whatever SPUCNT says, and leaves all registers as they are.
+
+A line b does what lines s with the sound's halfwords would do: SPUCNT's transfer mode has to be applied, and
+the transfer address moves on. A damaged bank ends the run before it begins; bank FILE lists a bank.
 
 render reports a line that is bad or refused by its number, and leaves it out. It also reports the first tick
 from which the sound may rest on memory that nobody loaded.
@@ -45,7 +51,8 @@ silence.
 Exit status, the sum of what applies (0 if nothing does):
   1  the sound may rest on memory that nobody loaded
   2  lines were bad or refused; the others are rendered
-  4  failed: wrong usage, or a file that cannot be read or written; the file OUT is as it was before
+  4  failed: wrong usage, a file that cannot be read or written, or a damaged bank; the file OUT is as it
+     was before
 ";
 
 pub const VERSION: &str = concat!("render ", env!("CARGO_PKG_VERSION"), "\n");
@@ -63,6 +70,8 @@ pub enum Request {
 pub struct Options {
     pub size: Size,
     pub cd: Option<PathBuf>,
+    pub title: Option<PathBuf>,
+    pub house: Option<PathBuf>,
     pub script: OsString,
     pub out: OsString,
 }
@@ -71,7 +80,7 @@ pub struct Options {
 pub fn parse(arguments: impl IntoIterator<Item = OsString>) -> Result<Request, String> {
     let mut arguments = arguments.into_iter();
     let mut size = Size::K512;
-    let mut cd = None;
+    let (mut cd, mut title, mut house) = (None, None, None);
     let mut names = Vec::new();
     while let Some(argument) = arguments.next() {
         let (option, value) = split(&argument);
@@ -80,14 +89,16 @@ pub fn parse(arguments: impl IntoIterator<Item = OsString>) -> Result<Request, S
             b"-h" | b"--help" if value.is_none() => return Ok(Request::Help),
             b"--version" if value.is_none() => return Ok(Request::Version),
             b"--ram" => size = ram(value.or_else(|| arguments.next()))?,
-            b"--cd" => cd = Some(file(value.or_else(|| arguments.next()))?),
+            b"--cd" => cd = Some(file(value.or_else(|| arguments.next()), "--cd needs the name of a WAV file")?),
+            b"--title" => title = Some(file(value.or_else(|| arguments.next()), "--title needs the name of a bank")?),
+            b"--house" => house = Some(file(value.or_else(|| arguments.next()), "--house needs the name of a bank")?),
             b"--help" | b"--version" => return Err(format!("{} takes no value", shown(OsStr::from_bytes(option)))),
             [b'-', _, ..] => return Err(format!("unknown option {}", shown(&argument))),
             _ => names.push(argument),
         }
     }
     let (script, out) = two(names)?;
-    Ok(Request::Render(Options { size, cd, script, out }))
+    Ok(Request::Render(Options { size, cd, title, house, script, out }))
 }
 
 /// `--option=value` in its parts; of any other argument the whole.
@@ -108,10 +119,10 @@ fn ram(value: Option<OsString>) -> Result<Size, String> {
     }
 }
 
-fn file(value: Option<OsString>) -> Result<PathBuf, String> {
+fn file(value: Option<OsString>, needed: &str) -> Result<PathBuf, String> {
     match value {
         Some(name) if !name.is_empty() => Ok(PathBuf::from(name)),
-        _ => Err("--cd needs the name of a WAV file".to_owned()),
+        _ => Err(needed.to_owned()),
     }
 }
 
@@ -140,7 +151,8 @@ mod tests {
     }
 
     fn options(size: Size, cd: Option<&str>, script: &str, out: &str) -> Result<Request, String> {
-        Ok(Request::Render(Options { size, cd: cd.map(PathBuf::from), script: script.into(), out: out.into() }))
+        let cd = cd.map(PathBuf::from);
+        Ok(Request::Render(Options { size, cd, title: None, house: None, script: script.into(), out: out.into() }))
     }
 
     #[test]
@@ -150,6 +162,20 @@ mod tests {
         assert_eq!(parsed("a --ram=64 b --cd=c=d"), options(Size::K64, Some("c=d"), "a", "b"));
         assert_eq!(parsed("- -"), options(Size::K512, None, "-", "-"));
         assert_eq!(parsed("--ram 64 a b --ram 512"), options(Size::K512, None, "a", "b"));
+    }
+
+    #[test]
+    fn either_bank_may_be_named() {
+        let banks = |line| match parsed(line) {
+            Ok(Request::Render(Options { title, house, .. })) => {
+                [title, house].map(|bank| bank.map(PathBuf::into_os_string))
+            }
+            other => panic!("{other:?}"),
+        };
+        assert_eq!(banks("a b"), [None, None]);
+        assert_eq!(banks("a b --title t"), [Some("t".into()), None]);
+        assert_eq!(banks("--house=h a b"), [None, Some("h".into())]);
+        assert_eq!(banks("--house h a --title=t b"), [Some("t".into()), Some("h".into())]);
     }
 
     #[test]
@@ -181,6 +207,9 @@ mod tests {
             ("a b --ram=", "--ram takes 512 or 64, not "),
             ("a b --cd", "--cd needs the name of a WAV file"),
             ("a b --cd=", "--cd needs the name of a WAV file"),
+            ("a b --title", "--title needs the name of a bank"),
+            ("a b --title=", "--title needs the name of a bank"),
+            ("a b --house", "--house needs the name of a bank"),
             ("--help=all", "--help takes no value"),
         ] {
             assert_eq!(parsed(line), Err(words.to_owned()), "{line}");

@@ -5,6 +5,7 @@ use std::path::{Path, PathBuf};
 
 use tenonwhisk::{Refusal, Spu};
 
+use crate::banks::Banks;
 use crate::cd::Cd;
 use crate::console::Console;
 use crate::failure::Failure;
@@ -27,6 +28,7 @@ pub struct Rendering<'a> {
     spu: Spu,
     loader: Loader,
     cd: Option<Cd>,
+    banks: Option<Banks>,
     script: Script<File>,
     script_name: String,
     /// The folder of the files that the script names.
@@ -50,8 +52,14 @@ impl<'a> Rendering<'a> {
         if let Some(cd) = &options.cd {
             refuse_same(&words::name(cd), Cd::identity(cd)?, &target)?;
         }
+        let [title, house] = [&options.title, &options.house].map(|bank| bank.as_deref().map(Source::file).transpose());
+        let (title, house) = (title?, house?);
+        for bank in [&title, &house].into_iter().flatten() {
+            refuse_same(&bank.name, bank.identity, &target)?;
+        }
         target.check_replaceable()?;
         let loader = Loader::new(options.size).map_err(|refusal| Failure::new(refusal.to_string()))?;
+        let banks = Banks::read(title, house)?;
         let cd = options.cd.as_deref().map(Cd::open).transpose()?;
         let (script_name, folder) = (source.name.clone(), source.folder.clone());
         Ok(Rendering {
@@ -60,6 +68,7 @@ impl<'a> Rendering<'a> {
             spu: Spu::new(options.size),
             loader,
             cd,
+            banks,
             script: Script::new(source.open()?),
             script_name,
             folder,
@@ -103,6 +112,7 @@ impl<'a> Rendering<'a> {
             }
             Command::Ticks(count) => self.sound(count.into())?,
             Command::Load { address, file } => self.load(address, &file)?,
+            Command::Sound(number) => self.move_sound(number),
             Command::Bad(expected) => self.report(&format!("bad line ({expected})")),
         }
         Ok(())
@@ -153,6 +163,23 @@ impl<'a> Rendering<'a> {
             Err(why) => self.report(&format!("cannot load {name}: {why}")),
         }
         Ok(())
+    }
+
+    /// Moves a sound of the banks to the transfer address, all of it or nothing.
+    fn move_sound(&mut self, number: u32) {
+        let Some(banks) = &self.banks else {
+            return self.report("there is no sound bank; name one with --title FILE or --house FILE");
+        };
+        let room = self.spu.ram().len();
+        let moved = match banks.lookup(number) {
+            Ok(sound) if sound.len() > room => {
+                let length = sound.len();
+                return self.report(&format!("sound {number} has {length} bytes, but sound RAM has only {room}"));
+            }
+            Ok(sound) => load::transfer(&mut self.spu, sound),
+            Err(refusal) => Err(refusal),
+        };
+        self.report_refusal(moved);
     }
 
     fn report(&mut self, words: &str) {

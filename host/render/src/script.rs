@@ -1,4 +1,4 @@
-//! The lines of a script: `w OFFSET VALUE`, `s V ..`, `t N`, `l ADDRESS FILE`, and comments.
+//! The lines of a script: `w OFFSET VALUE`, `s V ..`, `t N`, `l ADDRESS FILE`, `b NUMBER`, and comments.
 
 use std::ffi::OsStr;
 use std::io::{self, BufRead, BufReader, Read};
@@ -19,6 +19,8 @@ pub enum Command {
         address: u32,
         file: PathBuf,
     },
+    /// Moves the sound of a bank that has this number.
+    Sound(u32),
     /// A bad line, with what is expected.
     Bad(&'static str),
 }
@@ -32,7 +34,8 @@ const BAD_WRITE: &str = "w OFFSET VALUE is expected, each hex, 1 to 4 digits";
 const BAD_TRANSFER: &str = "s V .. is expected, each V hex, 1 to 4 digits";
 const BAD_TICKS: &str = "t N is expected, N decimal, up to 65535";
 const BAD_LOAD: &str = "l ADDRESS FILE is expected, ADDRESS hex, 1 to 5 digits";
-const BAD_WORD: &str = "w OFFSET VALUE, s V .., t N, l ADDRESS FILE or # is expected";
+const BAD_SOUND: &str = "b NUMBER is expected, NUMBER decimal, up to 4294967295";
+const BAD_WORD: &str = "w OFFSET VALUE, s V .., t N, l ADDRESS FILE, b NUMBER or # is expected";
 const TOO_LONG: &str = "at most 64 MiB are expected";
 
 /// The commands of a script, line by line.
@@ -123,6 +126,7 @@ fn parse(line: &[u8]) -> Result<Command, &'static str> {
         b"s" => transfer_in(rest).ok_or(BAD_TRANSFER),
         b"t" => ticks(rest).ok_or(BAD_TICKS),
         b"l" => load(rest).ok_or(BAD_LOAD),
+        b"b" => number(rest, 10).map(Command::Sound).ok_or(BAD_SOUND),
         _ => Err(BAD_WORD),
     }
 }
@@ -203,6 +207,12 @@ mod tests {
     }
 
     #[test]
+    fn numbers_of_sounds_are_decimal_and_have_32_bits() {
+        assert_eq!(commands("b 0\n b\t0017 \r\nb 1024"), [0, 17, 1024].map(Command::Sound));
+        assert_eq!(commands("b 4294967295\nb 00000004294967295"), [u32::MAX; 2].map(Command::Sound));
+    }
+
+    #[test]
     fn blank_lines_and_comments_count_as_lines() {
         let mut script = Script::new(&b"\n \t\r\n# t 1\n  #\r\nt 2\n#"[..]);
         assert_eq!(script.next_command().unwrap(), Some(Command::Ticks(2)));
@@ -234,7 +244,8 @@ mod tests {
         bad("s\ns 1 g\ns 10000\ns 1 -1", BAD_TRANSFER);
         bad("t\nt 65536\nt 1 1\nt +1\nt a\nt 99999999999999999999", BAD_TICKS);
         bad("l\nl 1000\nl 001000 a\nl kick.bin 1000\nl 0x10 a\nl -8 a", BAD_LOAD);
-        bad("W 180 1\nr 180\n\0t 1\nt\u{b}1\nt# 1\n180 1\ntt 1\nload 0 a", BAD_WORD);
+        bad("b\nb 4294967296\nb 1 2\nb -1\nb +1\nb A\nb 10h\nb 0x10\nb 99999999999999999999", BAD_SOUND);
+        bad("W 180 1\nr 180\nB 1\nb1\n\0t 1\nt\u{b}1\nt# 1\n180 1\ntt 1\nload 0 a", BAD_WORD);
     }
 
     #[test]

@@ -1,4 +1,4 @@
-//! Where the script is read from.
+//! Where a script or a sound bank is read from.
 
 use std::ffi::OsStr;
 use std::fs::{self, File};
@@ -24,17 +24,22 @@ enum Place {
 }
 
 impl Source {
-    /// Looks at the script without opening it: a FIFO waits for its writer only when it is opened.
+    /// What the command line names: `-` is standard input.
     pub fn find(name: &OsStr) -> Result<Source, Failure> {
         if name == "-" {
             return Source::standard_input().map_err(|error| Failure::reading(files::STANDARD_INPUT, &error));
         }
-        Source::named(Path::new(name)).map_err(|error| Failure::reading(words::name(name.as_ref()), &error))
+        Source::file(Path::new(name))
+    }
+
+    /// Looks at a file without opening it: a FIFO waits for its writer only when it is opened.
+    pub fn file(path: &Path) -> Result<Source, Failure> {
+        Source::named(path).map_err(|error| Failure::reading(words::name(path), &error))
     }
 
     fn standard_input() -> io::Result<Source> {
         if system::was_closed(0) {
-            return Err(io::Error::other("it is closed"));
+            return Err(files::is_closed());
         }
         let file = files::standard(io::stdin())?;
         let metadata = file.metadata()?;

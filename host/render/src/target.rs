@@ -83,7 +83,7 @@ impl Kind {
 
 fn standard_output() -> io::Result<Kind> {
     if system::was_closed(1) {
-        return Err(io::Error::other("it is closed"));
+        return Err(files::is_closed());
     }
     files::standard(io::stdout()).map(Kind::StandardOutput)
 }

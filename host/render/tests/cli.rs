@@ -1,5 +1,9 @@
-//! The program as it is used: each test runs it in a folder of its own.
+//! The programs as they are used: each test runs one in a folder of its own.
 
+#[path = "cli/bank.rs"]
+mod bank;
+#[path = "cli/banks.rs"]
+mod banks;
 #[path = "cli/cd.rs"]
 mod cd;
 #[path = "cli/folder.rs"]

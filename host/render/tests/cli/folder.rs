@@ -1,4 +1,4 @@
-//! A folder for one test, and the program run in it.
+//! A folder for one test, and the programs run in it.
 
 use std::fs;
 use std::os::unix::fs::{MetadataExt, PermissionsExt};
@@ -7,6 +7,7 @@ use std::path::{Path, PathBuf};
 use std::process::{Command, Output, Stdio};
 
 pub const RENDER: &str = env!("CARGO_BIN_EXE_render");
+pub const BANK: &str = env!("CARGO_BIN_EXE_bank");
 
 /// A tenth of a second of silence.
 pub const SILENCE: &str = "t 4410\n";
@@ -90,10 +91,15 @@ impl Folder {
         ran(self.command(arguments).output().unwrap())
     }
 
-    /// Runs a command of the shell, in which `$RENDER` is the program.
+    pub fn bank(&self, arguments: &[&str]) -> Ran {
+        let mut command = Command::new(BANK);
+        ran(command.args(arguments).current_dir(&self.0).stdin(Stdio::null()).output().unwrap())
+    }
+
+    /// Runs a command of the shell, in which `$RENDER` and `$BANK` are the programs.
     pub fn shell(&self, line: &str) -> Ran {
         let mut command = Command::new("sh");
-        command.args(["-c", line]).env("RENDER", RENDER).current_dir(&self.0).stdin(Stdio::null());
+        command.args(["-c", line]).env("RENDER", RENDER).env("BANK", BANK).current_dir(&self.0).stdin(Stdio::null());
         ran(command.output().unwrap())
     }
 
@@ -145,6 +151,18 @@ pub fn streamed_samples(wav: &[u8]) -> Vec<i16> {
 fn values(sound: &[u8]) -> Vec<i16> {
     assert_eq!(sound.len() % 4, 0);
     sound.chunks(2).map(|sample| i16::from_le_bytes([sample[0], sample[1]])).collect()
+}
+
+/// A bank of entries, each its kind, offset and count, good or not, cut or filled up to its length.
+pub fn bank_of(entries: &[(u16, u32, u32)], length: usize) -> Vec<u8> {
+    let mut bank = (entries.len() as u16).to_le_bytes().to_vec();
+    for &(kind, offset, count) in entries {
+        bank.extend(kind.to_le_bytes());
+        bank.extend(offset.to_le_bytes());
+        bank.extend(count.to_le_bytes());
+    }
+    bank.resize(length, 0);
+    bank
 }
 
 /// A script that plays what is loaded at a unit of sound RAM, for a tenth of a second.

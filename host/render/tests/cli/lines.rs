@@ -23,7 +23,7 @@ fn bad_and_refused_lines_are_told_and_left_out() {
     folder.write("s.txt", "t 1\nT 1\nw 180 8000\ns 0\nw 180\nw 1AE 0\nw 1A1 0\nt 65536\nt 1");
     folder.render(&["s.txt", "out.wav"]).is(
         2,
-        "line 2: bad line (w OFFSET VALUE, s V .., t N, l ADDRESS FILE or # is expected)\n\
+        "line 2: bad line (w OFFSET VALUE, s V .., t N, l ADDRESS FILE, b NUMBER or # is expected)\n\
          line 3: refused (5): this register, or this value of it, is not carried\n\
          line 4: refused (6): another transfer mode is applied (SPUCNT bits 5-4 act from the next tick on); \
          mode 1 or 2 moves inward, 3 outward\n\
@@ -65,7 +65,7 @@ fn comments_and_blank_lines_are_passed_over_and_counted() {
     folder.write("s.txt", "# A song\n\n  \t\r\n\t# more\r\nt 4410\r\n#\nx\n");
     folder.render(&["s.txt", "out.wav"]).is(
         2,
-        "line 7: bad line (w OFFSET VALUE, s V .., t N, l ADDRESS FILE or # is expected)\n\
+        "line 7: bad line (w OFFSET VALUE, s V .., t N, l ADDRESS FILE, b NUMBER or # is expected)\n\
          out.wav: 0.100 s, lines bad or refused: 1\n",
     );
 }

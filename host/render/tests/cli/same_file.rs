@@ -41,6 +41,19 @@ fn the_cd_file_is_never_replaced() {
 }
 
 #[test]
+fn a_bank_is_never_replaced() {
+    let folder = Folder::new("same-bank");
+    folder.write("s.txt", SILENCE);
+    folder.write("a.bank", [0, 0]);
+    folder.hard_link("a.bank", "hard.wav");
+    for [option, out] in [["--title", "a.bank"], ["--house", "a.bank"], ["--house", "hard.wav"]] {
+        let said = same("a.bank", out, &format!("{out} is as it was before"));
+        folder.render(&["s.txt", out, option, "a.bank"]).is(4, &said);
+    }
+    assert_eq!(folder.read("a.bank"), [0, 0]);
+}
+
+#[test]
 fn standard_input_from_the_output_is_refused() {
     let folder = Folder::new("same-standard-input");
     folder.write("s.wav", SILENCE);

@@ -10,7 +10,7 @@ fn help_tells_options_lines_and_status() {
         ran.is(0, "");
         let text = String::from_utf8(ran.out).unwrap();
         assert!(text.starts_with("usage: render [OPTIONS] SCRIPT OUT\n"));
-        for part in ["--ram", "--cd", "--version", "w OFFSET VALUE", "l ADDRESS FILE", "Exit status"] {
+        for part in ["--ram", "--cd", "--title", "--house", "--version", "w OFFSET VALUE", "b NUMBER", "Exit status"] {
             assert!(text.contains(part), "{part}");
         }
         assert!(text.lines().all(|line| line.chars().count() <= 110));
@@ -44,6 +44,8 @@ fn wrong_usage_is_told_and_touches_nothing() {
         (&["s.txt", "out.wav", "--ram", "128"], "--ram takes 512 or 64, not 128"),
         (&["s.txt", "out.wav", "--ram"], "--ram needs a value, 512 or 64"),
         (&["s.txt", "out.wav", "--cd"], "--cd needs the name of a WAV file"),
+        (&["s.txt", "out.wav", "--title"], "--title needs the name of a bank"),
+        (&["s.txt", "out.wav", "--house="], "--house needs the name of a bank"),
         (&["s.txt", ""], "the name of OUT is empty"),
     ] {
         folder.render(arguments).is(4, &format!("{words}; nothing was written\n{USAGE}"));

@@ -1,0 +1,34 @@
+//! What the programs `render` and `bank` are made of.
+//!
+//! `render` turns a script into a WAV file. [`options`] reads its command line; [`source`] and [`target`] find out what
+//! the names stand for. [`rendering`] leads a run: [`script`], [`banks`], [`cd`] with [`wav_in`], and [`load`] read, and
+//! [`output`] with [`temporary`] and [`wav`] writes. [`findings`] keeps what was wrong.
+//!
+//! `bank` lists a sound bank: [`listing`]. Both programs read banks with [`banks`] and say with [`damage`] what is wrong
+//! with them.
+//!
+//! [`console`], [`failure`] and [`words`] make messages, [`files`] knows names and links, and [`system`] handles signals.
+
+#![deny(unsafe_code)]
+
+pub mod banks;
+pub mod cd;
+pub mod console;
+pub mod damage;
+pub mod failure;
+pub mod files;
+pub mod findings;
+pub mod listing;
+pub mod load;
+pub mod options;
+pub mod output;
+pub mod rendering;
+pub mod script;
+pub mod source;
+#[allow(unsafe_code)]
+pub mod system;
+pub mod target;
+pub mod temporary;
+pub mod wav;
+pub mod wav_in;
+pub mod words;
