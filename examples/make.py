@@ -1,4 +1,4 @@
-"""Makes the examples: the samples, as ADPCM blocks, and the scripts, from notes.
+"""Makes the examples: the samples, as ADPCM blocks, sound banks of them, and the scripts, from notes.
 
     python3 -B examples/make.py             writes the files
     python3 -B examples/make.py --check     says whether they are up to date; exit status 1 if they are not
@@ -6,6 +6,7 @@
 import math
 import pathlib
 import random
+import struct
 import sys
 from typing import NamedTuple, Optional
 
@@ -168,6 +169,26 @@ DOOR = Sample("door.adpcm", encode(scaled(door_wave(RATE // 4)), end_flag=False)
 ZEROS = Sample("zeros.bin", bytes(4096))
 FILES = (FLUTE, SAW, PLUCK, BELL, TREMBLE, LEVEL, SILENCE, DOOR, ZEROS)
 
+# ---- sound banks: a header, which says where each sound stands, and the sounds
+
+SOUND, ALIAS = 0, 1                 # the kinds of an entry
+
+
+def bank(*entries):
+    """A sample is a sound; a number is an alias of the entry that has it. Sounds begin at multiples of 16."""
+    header, data = struct.pack("<H", len(entries)), b""
+    first = (2 + 10 * len(entries) + 15) // 16 * 16
+    for entry in entries:
+        if isinstance(entry, Sample):
+            header += struct.pack("<HII", SOUND, first + len(data), len(entry.blocks) // 16)
+            data += entry.blocks
+        else:
+            header += struct.pack("<HII", ALIAS, entry, 0)
+    return header.ljust(first, b"\0") + data
+
+
+BANKS = {"title.bank": bank(FLUTE, 0), "house.bank": bank(SAW, PLUCK, BELL, 0)}
+
 # ---- notes, volumes, envelopes, noise: what the registers take
 
 NAMES = {"C": 0, "D": 2, "E": 4, "F": 5, "G": 7, "A": 9, "B": 11}
@@ -270,6 +291,12 @@ class Script:
             self.place(sample)
             halfwords = [f"{high:02X}{low:02X}" for low, high in zip(sample.blocks[::2], sample.blocks[1::2])]
             self.lines += ["s " + " ".join(halfwords[at:at + 32]) for at in range(0, len(halfwords), 32)]
+
+    def take(self, number, sample, words):
+        """A sample from the sound banks, in a line b, behind what was moved before."""
+        self.place(sample)
+        self.say(words)
+        self.lines.append(f"b {number}")
 
     def main_volume(self):
         self.part("Main volume, left and right: full.")
@@ -579,6 +606,36 @@ def door():
     return script
 
 
+def banks():
+    script = Script("banks.txt: a flute, a bell and strings, from two sound banks.",
+                    "Listen for: the flute, which this title brings; bell and strings are the house's.",
+                    "It needs the options --title examples/samples/title.bank --house examples/samples/house.bank.")
+    script.main_volume()
+    script.control(ON | INWARD, ", transfers to sound RAM, which are on from the next tick")
+    script.wait(1)
+    script.part("The transfer address / 8, and the sounds, one behind the other.")
+    script.write(0x1A6, script.free // 8)
+    script.take(1, FLUTE, "1 is in the title's bank, an alias of 0 there: the flute. The house's 1, a harp, is not used.")
+    script.take(2, BELL, "2 is in the house's bank alone: the bell.")
+    script.take(3, SAW, "3 is in the house's bank alone, an alias of 0 there: the strings.")
+    score = Score(script)
+    flute = Part(score, "flute", FLUTE, envelope(attack=9, release=11), (0, 1), 0.3, (0.2,))
+    bell = Part(score, "bell", BELL, envelope(attack=2, sustain=13, release=12), range(2, 6), 0.3, (-0.7, 0.7))
+    strings = Part(score, "strings", SAW, envelope(attack=12, release=12), range(6, 12), 0.1, (-0.8, 0, 0.8))
+    beat = 2 * RATE // 5
+    script.part("The music: pitch, key on; later key off.")
+    for bar, notes in enumerate(("A3 C4 E4", "A3 C4 F4", "B3 D4 G4", "A3 C#4 E4")):
+        for note in notes.split():
+            strings.note(4 * bar * beat, note, 3.8 * beat)
+    for at, note, beats in ((0, "E5", 2), (2, "A5", 1), (3, "B5", 1), (4, "C6", 3), (7, "A5", 1), (8, "B5", 2),
+                            (10, "G5", 1), (11, "D5", 1), (12, "E5", 3)):
+        flute.note(at * beat, note, (beats - 0.2) * beat)
+    for at, note in ((1, "A5"), (5, "F5"), (6, "C6"), (9, "D6"), (13, "A5"), (13.5, "C#6"), (14, "E6"), (14.5, "A6")):
+        bell.note(at * beat, note, 2 * beat)
+    score.play(18 * beat)
+    return script
+
+
 # ---- the song
 
 EIGHTH = RATE // 5                  # 150 quarters a minute
@@ -694,12 +751,13 @@ def song():
 
 # ---- files
 
-EXAMPLES = (tone, chord, drums, hall, door, song)
+EXAMPLES = (tone, chord, drums, hall, door, banks, song)
 
 
 def contents():
     """What each file holds, by its name."""
     made = {f"samples/{sample.file}": sample.blocks for sample in FILES}
+    made.update({f"samples/{name}": content for name, content in BANKS.items()})
     for example in EXAMPLES:
         made[f"{example.__name__}.txt"] = "".join(line + "\n" for line in example().lines).encode()
     return made

@@ -16,7 +16,7 @@ usage: bank [OPTIONS] FILE
 
 Lists a sound bank, and says what is damaged and where.
 
-FILE is a file, or - for standard input.
+FILE is a file of up to 1 GiB, or - for standard input.
 
 Options, before or after the name:
   -h, --help      print this text

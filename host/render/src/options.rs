@@ -19,7 +19,7 @@ Options, before or after the names:
   --cd FILE.wav   play this file as the CD input from tick 0 on, and silence after its end
                   (16 bits, stereo, 44,100 Hz, PCM)
   --title FILE    the title's sound bank, for lines b
-  --house FILE    the house's sound bank: lines b take what the title's bank has no entry for from here
+  --house FILE    the house's sound bank, for lines b whose number the title's bank has no entry for
   -h, --help      print this text
   --version       print the version
   --              what follows is a name, even if it begins with -
@@ -29,15 +29,16 @@ Lines of a script:
   s V ..          move halfwords to sound RAM at the transfer address (hex, 1 to 4 digits)
   t N             sound for N ticks of 1/44100 s (decimal, up to 65535)
   l ADDRESS FILE  load a file's bytes to sound RAM at an address (hex, 1 to 5 digits, a multiple of 8)
-  b NUMBER        move the sound of this number from the sound banks to the transfer address (decimal)
+  b NUMBER        move a sound of the banks to sound RAM at the transfer address (decimal, up to 4294967295)
   # ..            a comment; blank lines are skipped too
 
 Spaces, tabs and CR separate fields. FILE is the rest of the line, so its name may hold spaces. A relative
 FILE is looked for beside the script, or in the current folder if the script is standard input or a pipe. A
 load takes no time, works whatever SPUCNT says, and leaves all registers as they are.
 
-A line b does what lines s with the sound's halfwords would do: SPUCNT's transfer mode has to be applied, and
-the transfer address moves on. A damaged bank ends the run before it begins; bank FILE lists a bank.
+A line b does what lines s with all halfwords of the sound would do: a transfer mode has to be applied, and
+the transfer address moves on. If it is refused, nothing is moved. A bank of more than 1 GiB is not read. If a
+bank is damaged, render says where and renders nothing. The program bank lists a bank.
 
 render reports a line that is bad or refused by its number, and leaves it out. It also reports the first tick
 from which the sound may rest on memory that nobody loaded.
