@@ -1,10 +1,11 @@
-//! Ends with status 0 if a chip over lent memory makes its ticks.
+//! Ends with status 0 if a chip over lent memory makes its ticks, and a sound bank is written and read.
 
 #![no_std]
 #![no_main]
 
 use core::panic::PanicInfo;
 
+use tenonwhisk::bank::{self, Entry};
 use tenonwhisk::{Refusal, Size, Spu, State};
 
 #[link(name = "c")]
@@ -17,9 +18,15 @@ fn ticks() -> Result<usize, Refusal> {
     Ok(spu.run(&[], &mut out)?.count)
 }
 
+fn sound_bytes() -> Result<usize, Refusal> {
+    let mut title = [0; bank::length(1, 20)];
+    bank::write(&[Entry::sound(16, 1)], &[0; 20], &mut title)?;
+    Ok(bank::lookup(&title, bank::EMPTY, 0)?.len())
+}
+
 #[no_mangle]
 extern "C" fn main() -> i32 {
-    i32::from(ticks() != Ok(10))
+    i32::from(ticks() != Ok(10) || sound_bytes() != Ok(16))
 }
 
 #[panic_handler]
