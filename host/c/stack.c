@@ -13,7 +13,7 @@
 #include <stdlib.h>
 #include <string.h>
 
-enum { STACK_WORDS = 1 << 15, STACK_BYTES = STACK_WORDS * sizeof(uint32_t), ALIGNMENT = 4096 };
+enum { STACK_WORDS = 1 << 17, STACK_BYTES = STACK_WORDS * sizeof(uint32_t), ALIGNMENT = 4096 };
 enum { MAKE = CALLS, CALLS_ON_STATES, BANK_FIND = CALLS_ON_STATES, BANK_CHECK, BANK_ENTRY, BANK_WRITE, ALL_CALLS };
 
 static uint32_t *stack;
