@@ -242,8 +242,8 @@ static inline const uint8_t *tenonwhisk_block_view(const uint8_t *state, size_t 
  *   alias    kind 1: another number for an entry that stands before it, a sound or an alias. Its offset is the number
  *            of that entry, and its count is 0.
  *
- * Anything else is damage, and so are more entries and a bank that ends inside its header. Sounds may overlap and stand
- * in any order, and bytes may belong to none. A bank of no entries is good; a bank of no bytes is damaged.
+ * Anything else is damage, and so is a header that counts more entries or is longer than the bank. Sounds may overlap
+ * and stand in any order, and bytes may belong to none. A bank of no entries is good; a bank of no bytes is damaged.
  *
  * These calls need no state. A bank that is looked at is only read, and the two banks of one call may overlap. */
 enum tenonwhisk_bank_kind { TENONWHISK_BANK_SOUND = 0, TENONWHISK_BANK_ALIAS = 1 };
