@@ -52,8 +52,8 @@ impl<'a> Rendering<'a> {
         if let Some(cd) = &options.cd {
             refuse_same(&words::name(cd), Cd::identity(cd)?, &target)?;
         }
-        let [title, house] = [&options.title, &options.house].map(|bank| bank.as_deref().map(Source::file).transpose());
-        let (title, house) = (title?, house?);
+        let find_bank = |path: &Option<PathBuf>| path.as_deref().map(Source::file).transpose();
+        let (title, house) = (find_bank(&options.title)?, find_bank(&options.house)?);
         for bank in [&title, &house].into_iter().flatten() {
             refuse_same(&bank.name, bank.identity, &target)?;
         }
