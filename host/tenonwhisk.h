@@ -47,7 +47,7 @@ extern "C" {
 #define TENONWHISK_STATE_BYTES 2493
 
 /* No call uses more stack than this. */
-#define TENONWHISK_STACK_BYTES 32768
+#define TENONWHISK_STACK_BYTES 40960
 
 /* ---- numbers */
 

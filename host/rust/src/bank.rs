@@ -5,7 +5,8 @@
 //! entry is a sound or an alias, another number for an entry before it. Anything else is [`Damage`].
 //!
 //! [`lookup`] takes two banks, the title's and the house's. A sound comes from the title's bank or, if that has no entry
-//! with its number, from the house's. A host with one bank takes [`EMPTY`] for the other.
+//! with its number, from the house's. A host with one bank takes [`EMPTY`] for the other. A call uses up to 40 KiB of
+//! stack.
 //!
 //! ```
 //! use tenonwhisk::bank::{self, Entry};
