@@ -291,11 +291,12 @@ enum tenonwhisk_bank_place {
 };
 
 struct tenonwhisk_bank_damage {
+    uint8_t number;
     uint8_t place;  /* an enum tenonwhisk_bank_place */
     uint32_t entry; /* the first damaged entry, if the place is TENONWHISK_BANK_AT_ENTRY; else 0 */
 };
 
-/* Says whether a bank is damaged, and where first. */
+/* Says whether a bank is damaged, and where first. Numbers: 0, 9. */
 struct tenonwhisk_bank_damage tenonwhisk_bank_check(const uint8_t *bank, size_t bank_len);
 
 struct tenonwhisk_bank_fields {

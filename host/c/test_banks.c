@@ -113,6 +113,7 @@ static void expect_damage(struct bank bank, enum tenonwhisk_bank_place place, ui
 {
     struct bank copy = bank_cut(bank, bank.length), none = {(uint8_t[]){0, 0}, 2};
     struct tenonwhisk_bank_damage damage = tenonwhisk_bank_check(LEND(copy));
+    check(damage.number == (place == TENONWHISK_BANK_GOOD ? 0 : 9), "check gives %d", damage.number);
     check(damage.place == place && damage.entry == entry, "damage at place %d, entry %u, not %d, %u", damage.place,
           damage.entry, place, entry);
     struct tenonwhisk_bank_fields fields = tenonwhisk_bank_entry(LEND(copy), 0xFFFFFFFF);

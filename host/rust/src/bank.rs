@@ -154,10 +154,10 @@ pub fn find(title: &[u8], house: &[u8], number: u32) -> Result<Found, Refusal> {
 
 /// Says whether a bank is damaged, and where first.
 pub fn check(bank: &[u8]) -> Result<(), Damage> {
-    let ffi::Damage { place, entry } = ffi::bank_check(bank);
-    match place {
-        0 => Ok(()),
-        1 => Err(Damage::Header),
+    let ffi::Damage { number, place, entry } = ffi::bank_check(bank);
+    match (number, place) {
+        (0, _) => Ok(()),
+        (_, 1) => Err(Damage::Header),
         _ => Err(Damage::Entry(entry)),
     }
 }

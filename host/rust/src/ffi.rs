@@ -55,6 +55,7 @@ pub struct Found {
 
 #[repr(C)]
 pub struct Damage {
+    pub number: u8,
     pub place: u8,
     pub entry: u32,
 }
