@@ -17,6 +17,7 @@ ENTRY = struct.Struct("<HII")
 
 Entry = collections.namedtuple("Entry", "kind offset count")
 Damage = collections.namedtuple("Damage", "place entry", defaults=(0,))
+Checked = collections.namedtuple("Checked", "number place entry")
 Fields = collections.namedtuple("Fields", "number kind offset count", defaults=(0, 0, 0))
 Found = collections.namedtuple("Found", "number house entry offset length", defaults=(False, 0, 0, 0))
 Written = collections.namedtuple("Written", "number length", defaults=(0,))
@@ -67,6 +68,12 @@ def damage(bank):
 
 
 # ---- The calls
+
+def check(bank):
+    """"9 .. damaged": the number, and where the bank is damaged first """
+    where = damage(bank)
+    return Checked(DONE if where.place == GOOD else DAMAGED, *where)
+
 
 def read(bank, k):
     """Entry k as it stands in the file, good or not, unless the header is damaged."""

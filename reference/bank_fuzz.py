@@ -21,7 +21,7 @@ BATCH_SECONDS = 60                      # more is taken for a program that does 
 Changes = collections.namedtuple("Changes", "lists")
 
 # Each result as host/c/banks.c answers it.
-PACKED = {"Damage": struct.Struct("<BI"), "Fields": struct.Struct("<BHII"), "Found": struct.Struct("<BBIQQ"),
+PACKED = {"Checked": struct.Struct("<BBI"), "Fields": struct.Struct("<BHII"), "Found": struct.Struct("<BBIQQ"),
           "Written": struct.Struct("<BQ"), "Changes": struct.Struct("<B")}
 
 
@@ -29,7 +29,7 @@ PACKED = {"Damage": struct.Struct("<BI"), "Fields": struct.Struct("<BHII"), "Fou
 
 
 def answers_of_bank(reference, name, file, numbers):
-    yield ("check", name), reference.damage(file), b""
+    yield ("check", name), reference.check(file), b""
     for number in numbers:
         yield ("entry", number, name), reference.read(file, number), b""
 

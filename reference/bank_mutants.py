@@ -65,7 +65,8 @@ WRONG = (
     ("the last damaged entry is named", "in enumerate(listed):", "in reversed(tuple(enumerate(listed))):"),
     ("damaged entries count from 1", "Damage(AT_ENTRY, k)", "Damage(AT_ENTRY, k + 1)"),
 
-    # ---- Entry, find
+    # ---- Check, entry, find
+    ("a damaged header has no number", "DONE if where.place == GOOD", "DONE if where.place != AT_ENTRY"),
     ("entries of a damaged bank are not read", "if listed is None:\n        return Fields",
      "if damage(bank).place != GOOD:\n        return Fields"),
     ("an entry's number in 16 bits", "def read(bank, k):\n", "def read(bank, k):\n    k %= 65536\n"),

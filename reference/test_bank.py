@@ -3,7 +3,7 @@ import random
 import unittest
 
 import bank
-from bank import AT_ENTRY, DAMAGED, DONE, GOOD, IN_HEADER, NO_ENTRY, ROOM, damage, find, lookup, read, write
+from bank import AT_ENTRY, DAMAGED, DONE, GOOD, IN_HEADER, NO_ENTRY, ROOM, check, damage, find, lookup, read, write
 from bank_cases import RECIPES, WRONG_ALIASES, WRONG_SOUNDS, Draft, make_case
 from bank_fuzz import answers
 from bank_mutants import WRONG, load
@@ -112,6 +112,11 @@ class Aliases(unittest.TestCase):
     def test_kind(self):
         for kind in (2, 257):
             self.assertEqual(third(kind, 0, 0), (AT_ENTRY, 2))
+
+    def test_check(self):
+        self.assertEqual(check(EMPTY), (0, GOOD, 0))
+        self.assertEqual(check(EMPTY[:1]), (9, IN_HEADER, 0))
+        self.assertEqual(check(file(12, (0, 16, 1))), (9, AT_ENTRY, 0))
 
     def test_first_damage(self):
         bad, good = (2, 0, 0), (0, 64, 1)

@@ -80,6 +80,7 @@ static void put(uint64_t value, size_t bytes)
 static void answer_check(struct list bank)
 {
     struct tenonwhisk_bank_damage damage = tenonwhisk_bank_check(LEND(bank));
+    put(damage.number, 1);
     put(damage.place, 1);
     put(damage.entry, 4);
 }
