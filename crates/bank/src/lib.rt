@@ -3,7 +3,7 @@ ghost use mathlib.Core.Path.{_≡_};
 ghost use mathlib.Core.Bool.{true};
 ghost use Prim.Native.Nat.{_+_, _*_, _≤_, _<_};
 ghost use lib.ListN.{length};
-ghost use Rattle.bank.specs.Bank.{countOf, placeOf, entryAt, isHeader, isSound as isSoundOf, isAlias as isAliasOf, isEntry as isEntryOf, damageOf, isGood as isGoodOf, soundOf, foundIn, foundOf, lookupOf, nothing as nothingOf, fieldsOf};
+ghost use Rattle.bank.specs.Bank.{countOf, placeOf, headerEnd, entryAt, isHeader, isSound as isSoundOf, isAlias as isAliasOf, isEntry as isEntryOf, damageOf, isGood as isGoodOf, soundOf, foundIn, foundOf, lookupOf, nothing as nothingOf, fieldsOf};
 use little_endian::half_at;
 use little_endian::word_at;
 
@@ -40,11 +40,10 @@ pub struct Found {
 
 // ---- the header and its entries
 
-pub fn header_end(count: usize) -> usize
-    requires { ⌜ count ≤ 65535 ⌝ }
-    ensures { λ r. ⌜ r ≡ placeOf count ⌝ }
+pub fn header_end(count: u16) -> usize
+    ensures { λ r. ⌜ r ≡ headerEnd count ⌝ }
 {
-    2 + count * 10
+    2 + count as usize * 10
 }
 
 fn has_header(bank: &[u8]) -> bool
@@ -53,15 +52,15 @@ fn has_header(bank: &[u8]) -> bool
     if bank.len() < 2 {
         return false;
     }
-    let count = half_at(bank, 0) as usize;
-    (count <= MOST_ENTRIES) & (header_end(count) <= bank.len())
+    let count = half_at(bank, 0);
+    (count as usize <= MOST_ENTRIES) & (header_end(count) <= bank.len())
 }
 
-fn entry_count(bank: &[u8]) -> usize
+fn entry_count(bank: &[u8]) -> u16
     requires { ⌜ isHeader (now bank) ≡ true ⌝ }
     ensures { λ r. ⌜ r ≡ countOf (now (bank .entry)) ⌝ }
 {
-    half_at(bank, 0) as usize
+    half_at(bank, 0)
 }
 
 fn entry_at(bank: &[u8], n: usize) -> Entry
@@ -113,7 +112,7 @@ pub fn check(bank: &[u8]) -> Damage
     let count = entry_count(bank);
     let end = header_end(count);
     let size = bank.len();
-    for n in 0..count {
+    for n in 0..count as usize {
         let e = entry_at(bank, n);
         if !is_entry(end, size, n, e) {
             return Damage::AtEntry(n as u32);
@@ -148,14 +147,13 @@ pub fn read_entry(bank: &[u8], n: u32) -> Fields
             entry: none,
         };
     }
-    let k = n as usize;
-    if entry_count(bank) <= k {
+    if entry_count(bank) as u32 <= n {
         return Fields {
             number: 10,
             entry: none,
         };
     }
-    let found = entry_at(bank, k);
+    let found = entry_at(bank, n as usize);
     Fields {
         number: 0,
         entry: found,
@@ -211,10 +209,10 @@ pub fn find(title: &[u8], house: &[u8], n: u32) -> Found
     if !good {
         return nothing(9);
     }
-    if (n as usize) < entry_count(title) {
+    if n < entry_count(title) as u32 {
         return find_in(false, title, n);
     }
-    if (n as usize) < entry_count(house) {
+    if n < entry_count(house) as u32 {
         return find_in(true, house, n);
     }
     nothing(10)

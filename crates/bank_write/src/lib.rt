@@ -21,7 +21,7 @@ fn are_entries(kinds: &[u16], offsets: &[u32], counts: &[u32], size: usize) -> b
     requires { ⌜ (length (now kinds) ≤ 1024) × (length (now offsets) ≡ length (now kinds)) × (length (now counts) ≡ length (now kinds)) ⌝ }
     ensures { λ r. ⌜ r ≡ isNowhere (damageBelow (isEntryIn (lists (now (kinds .entry)) (now (offsets .entry)) (now (counts .entry))) size) (length (now (kinds .entry)))) ⌝ }
 {
-    let end = bank::header_end(kinds.len());
+    let end = bank::header_end(kinds.len() as u16);
     for n in 0..kinds.len() {
         let e = Entry {
             kind: kinds[n],
@@ -53,7 +53,7 @@ fn is_writable(kinds: &[u16], offsets: &[u32], counts: &[u32], data: &[u8]) -> b
         kinds,
         offsets,
         counts,
-        bank::header_end(kinds.len()) + data.len(),
+        bank::header_end(kinds.len() as u16) + data.len(),
     )
 }
 
@@ -102,7 +102,7 @@ pub fn write(kinds: &[u16], offsets: &[u32], counts: &[u32], data: &[u8], out: &
             length: 0,
         };
     }
-    let end = bank::header_end(kinds.len());
+    let end = bank::header_end(kinds.len() as u16);
     let length = end + data.len();
     if out.len() < length {
         return Written {

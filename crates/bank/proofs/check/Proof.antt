@@ -10,10 +10,10 @@ use Rattle.bank.proofs.check.Statement.{statement}
 use Rattle.bank.proofs.check.Tie as tie
 
 abbrev Inv-loop : tie.InvT-loop
-Inv-loop bank count end size n₀ n = (n ≤ count) × (damageBelow (isEntryAt bank) n ≡ Nowhere)
+Inv-loop bank count end size n₀ n-end n = (n ≤ count) × (damageBelow (isEntryAt bank) n ≡ Nowhere)
 
 abbrev μ-loop : tie.MeasureT-loop
-μ-loop bank count end size n₀ n = count - n
+μ-loop bank count end size n₀ n-end n = count - n
 
 has-header-requires : tie.Need-has-header-requires Inv-loop μ-loop
 has-header-requires c κs = search needs
@@ -25,10 +25,10 @@ entry-count-requires : tie.Need-entry-count-requires Inv-loop μ-loop
 entry-count-requires c κs = tested-header _ (c .before .has-header .ensures) (c .if1 .left)
 
 header-end-requires : tie.Need-header-end-requires Inv-loop μ-loop
-header-end-requires c κs =
-    let b = c .before in
-    let h = checked _ (b .before .has-header .ensures) (b .if1 .left) in
-    omega (arith, h .most, c .entry-count .ensures)
+header-end-requires c κs = search needs
+
+cast-n-end : tie.Need-cast-n-end Inv-loop μ-loop
+cast-n-end c = search needs
 
 loop-holds : tie.Need-loop-holds Inv-loop μ-loop
 loop-holds c = (search needs, below-none _)
@@ -43,8 +43,8 @@ entry-at-requires c κs =
 is-entry-requires : tie.Need-is-entry-requires Inv-loop μ-loop
 is-entry-requires c κs = search needs
 
-cast-t11 : tie.Need-cast-t11 Inv-loop μ-loop
-cast-t11 c =
+cast-t12 : tie.Need-cast-t12 Inv-loop μ-loop
+cast-t12 c =
     let a = c .before .before .before .before .before .before in
     let b = a .before in
     let h = checked _ (b .before .has-header .ensures) (b .if1 .left) in
@@ -88,10 +88,11 @@ check-spec =
     returns
     entry-count-requires
     header-end-requires
+    cast-n-end
     loop-holds
     entry-at-requires
     is-entry-requires
-    cast-t11
+    cast-t12
     returns-2
     add-n
     loop-less

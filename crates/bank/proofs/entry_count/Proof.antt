@@ -6,11 +6,8 @@ use Rattle.bank.proofs.entry_count.Tie as tie
 half-at-requires : tie.Need-half-at-requires
 half-at-requires c κs = search (needs, header-two)
 
-cast-result : tie.Need-cast-result
-cast-result c = search needs
-
 returns : tie.Need-returns
 returns c = search count-as
 
 pub entry-count-spec : {M : Type 1} → statement M
-entry-count-spec = tie.close (tie.spec half-at-requires cast-result returns)
+entry-count-spec = tie.close (tie.spec half-at-requires returns)

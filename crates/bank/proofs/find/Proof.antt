@@ -20,6 +20,9 @@ returns c = find-9 _ _ _ (c .before .before .before .is-good .ensures) (c .befor
 entry-count-requires : tie.Need-entry-count-requires
 entry-count-requires c κs = good-is _ (title-good _ _ 0 (c .before .before .is-good .ensures) (c .before .is-good2 .ensures) (c .if1 .left)) .header
 
+cast-if2 : tie.Need-cast-if2
+cast-if2 c = search needs
+
 find-in-requires : tie.Need-find-in-requires
 find-in-requires c κs =
     let b = c .before .before in
@@ -35,6 +38,9 @@ entry-count-requires-2 : tie.Need-entry-count-requires-2
 entry-count-requires-2 c κs =
     let b = c .before .before in
     good-is _ (house-good _ _ 0 (b .before .before .is-good .ensures) (b .before .is-good2 .ensures) (b .if1 .left)) .header
+
+cast-if3 : tie.Need-cast-if3
+cast-if3 c = search needs
 
 find-in-requires-2 : tie.Need-find-in-requires-2
 find-in-requires-2 c κs =
@@ -67,9 +73,11 @@ find-spec =
     nothing-requires
     returns
     entry-count-requires
+    cast-if2
     find-in-requires
     returns-2
     entry-count-requires-2
+    cast-if3
     find-in-requires-2
     returns-3
     nothing-requires-2

@@ -9,8 +9,8 @@ returns c = search header-short
 half-at-requires : tie.Need-half-at-requires
 half-at-requires c κs = search needs
 
-cast-count : tie.Need-cast-count
-cast-count c = search needs
+cast-result : tie.Need-cast-result
+cast-result c = search needs
 
 header-end-requires : tie.Need-header-end-requires
 header-end-requires c κs = search needs
@@ -20,4 +20,4 @@ returns-2 c = search (needs, header-as)
 
 pub has-header-spec : {M : Type 1} → statement M
 has-header-spec =
-    tie.close (tie.spec returns half-at-requires cast-count header-end-requires returns-2)
+    tie.close (tie.spec returns half-at-requires cast-result header-end-requires returns-2)

@@ -13,6 +13,9 @@ returns c = fields-9 _ (c .before .has-header .ensures) (c .if1 .taken) _
 entry-count-requires : tie.Need-entry-count-requires
 entry-count-requires c κs = tested-header _ (c .before .has-header .ensures) (c .if1 .left)
 
+cast-if2 : tie.Need-cast-if2
+cast-if2 c = search needs
+
 returns-2 : tie.Need-returns-2
 returns-2 c =
     let b = c .before .before in
@@ -37,6 +40,7 @@ read-entry-spec =
     has-header-requires
     returns
     entry-count-requires
+    cast-if2
     returns-2
     entry-at-requires
     returns-3)

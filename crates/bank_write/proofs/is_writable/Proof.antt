@@ -14,11 +14,14 @@ returns c =
     let z = c .before .before .before .before .before .before in
     not-sized (lists (z .args .kinds .now) (z .args .offsets .now) (z .args .counts .now)) _ (c .before .are-sized .ensures) (c .if1 .taken)
 
-header-end-requires : tie.Need-header-end-requires
-header-end-requires c κs =
+cast-header-end : tie.Need-cast-header-end
+cast-header-end c =
     let z = c .before .before .before .before .before .before in
     let s = sized (lists (z .args .kinds .now) (z .args .offsets .now) (z .args .counts .now)) [] (c .before .are-sized .ensures) (c .if1 .left) in
-    omega (arith, s .most)
+    record { fits = omega (arith, s .most) }
+
+header-end-requires : tie.Need-header-end-requires
+header-end-requires c κs = search needs
 
 add-are-entries : tie.Need-add-are-entries
 add-are-entries c =
@@ -46,6 +49,7 @@ is-writable-spec =
     (tie.spec
     are-sized-requires
     returns
+    cast-header-end
     header-end-requires
     add-are-entries
     are-entries-requires

@@ -14,11 +14,14 @@ returns c =
     let z = c .before .before .before .before .before .before .before in
     write-9 (lists (z .args .kinds .now) (z .args .offsets .now) (z .args .counts .now)) _ _ (c .before .is-writable .ensures) (c .if1 .taken)
 
-header-end-requires : tie.Need-header-end-requires
-header-end-requires c κs =
+cast-header-end : tie.Need-cast-header-end
+cast-header-end c =
     let z = c .before .before .before .before .before .before .before in
     let s = write-sized (lists (z .args .kinds .now) (z .args .offsets .now) (z .args .counts .now)) _ [] (c .before .is-writable .ensures) (c .if1 .left) in
-    omega (arith, s .most)
+    record { fits = omega (arith, s .most) }
+
+header-end-requires : tie.Need-header-end-requires
+header-end-requires c κs = search needs
 
 add-length : tie.Need-add-length
 add-length c =
@@ -61,6 +64,7 @@ write-spec =
     (tie.spec
     is-writable-requires
     returns
+    cast-header-end
     header-end-requires
     add-length
     returns-2
