@@ -191,7 +191,7 @@ fn print_writes(bank: &[u8]) {
     let mut offsets = [0u32; ENTRIES];
     let mut counts = [0u32; ENTRIES];
     collect(bank, &mut kinds, &mut offsets, &mut counts);
-    let end = bank::header_end(ENTRIES);
+    let end = bank::header_end(ENTRIES as u16);
     if bank.len() <= end {
         return;
     }
