@@ -17,6 +17,9 @@ use Rattle.bank.specs.declared.Found.{Found}
 unfoldable pub countOf : List ℕ → ℕ
 countOf bank = halfAt bank 0
 
+abbrev pub mostEntries : ℕ
+mostEntries = 1024
+
 -- the place of entry n: 2 bytes of count, then 10 for each entry before it
 abbrev pub placeOf : ℕ → ℕ
 placeOf n = 2 + n * 10
@@ -30,7 +33,7 @@ headerEnd count = placeOf count
 
 -- "at most 1,024"; "A short header .. is damage"
 unfoldable pub isHeader : List ℕ → Bool
-isHeader bank = leb 2 (length bank) && (leb (countOf bank) 1024 && leb (headerEnd (countOf bank)) (length bank))
+isHeader bank = leb 2 (length bank) && (leb (countOf bank) mostEntries && leb (headerEnd (countOf bank)) (length bank))
 
 -- ---- entries. A file of `size` bytes has a header that ends at `end`.
 

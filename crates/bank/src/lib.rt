@@ -132,7 +132,7 @@ fn is_good(bank: &[u8]) -> bool
     }
 }
 
-// The entry n as it stands in the file, good or not. The number is 9 where the header is damaged, and 10 where there is no such entry.
+// Entry n as it stands in the file, good or not. The number is 9 if the header is damaged, and 10 if there is no such entry.
 pub fn read_entry(bank: &[u8], n: u32) -> Fields
     ensures { λ r. ⌜ r ≡ fieldsOf (now (bank .entry)) n ⌝ }
 {
@@ -201,7 +201,7 @@ fn find_in(house: bool, bank: &[u8], n: u32) -> Found
     }
 }
 
-// Where the sound of a number is. The number is 9 where either bank is damaged, and 10 where neither has such an entry.
+// Where the sound with this number is. The refusal's number is 9 if either bank is damaged, and 10 if neither has such an entry.
 pub fn find(title: &[u8], house: &[u8], n: u32) -> Found
     ensures { λ r. ⌜ r ≡ foundOf (now (title .entry)) (now (house .entry)) n ⌝ }
 {
@@ -218,7 +218,7 @@ pub fn find(title: &[u8], house: &[u8], n: u32) -> Found
     nothing(10)
 }
 
-// The bytes of the sound of a number, a part of one of the two banks; none where `find` refuses.
+// The bytes of that sound, a part of one of the two banks; none if `find` refuses.
 pub fn lookup<'a>(title: &'a [u8], house: &'a [u8], n: u32) -> &'a [u8]
     ensures { λ r. ⌜ now r ≡ lookupOf (now (title .entry)) (now (house .entry)) n ⌝ }
 {

@@ -7,7 +7,7 @@ use lib.Dec.{eqb, leb}
 use lib.ListN.{length, getD, take, drop}
 use Rattle.little_endian.specs.Bytes.{each, halfBytes, wordBytes}
 use Rattle.bank.specs.declared.Entry.{Entry}
-use Rattle.bank.specs.Bank.{countOf, headerEnd, entryAt, isEntry, isGood, soundOf, lookupOf}
+use Rattle.bank.specs.Bank.{countOf, mostEntries, headerEnd, entryAt, isEntry, isGood, soundOf, lookupOf}
 
 -- the entries that are handed in, as a list of each field
 pub record Lists : Type 0 where
@@ -44,7 +44,7 @@ isEntryIn ls size n = isEntry (headerEnd (entriesIn ls)) size n (entryIn ls n)
 
 -- the lists are of one length, "at most 1,024"
 unfoldable pub areSized : Lists → Bool
-areSized ls = eqb (length (ls .offsets)) (entriesIn ls) && (eqb (length (ls .counts)) (entriesIn ls) && leb (entriesIn ls) 1024)
+areSized ls = eqb (length (ls .offsets)) (entriesIn ls) && (eqb (length (ls .counts)) (entriesIn ls) && leb (entriesIn ls) mostEntries)
 
 -- they are, and the bank to be written is good
 unfoldable pub isWritable : Lists → List ℕ → Bool
@@ -71,8 +71,8 @@ writtenOf ls «data» out =
 abbrev pub soundIn : Lists → List ℕ → ℕ → List ℕ
 soundIn ls bank n = let e = entryIn ls (soundOf (entryIn ls) n) in take (e .count * 16) (drop (e .offset) bank)
 
--- `file` is read as `bank`, a bank of these entries: it is good, has the same entries, and a lookup in it gives the same sounds, be it the title's bank or the
--- house's
+-- `file` is read as `bank`, a bank of these entries: it is good and has the same entries, and a lookup in it gives the same sounds, as the title's bank and as
+-- the house's
 pub record ReadBack (ls : Lists) (bank file : List ℕ) : Type 0 where
   pub good : isGood file ≡ true
   pub count : countOf file ≡ entriesIn ls

@@ -92,7 +92,7 @@ fn put_data(out: &mut [u8], at: usize, data: &[u8])
     }
 }
 
-// Writes the count, the entries and the data. The number is 9 where they are no good bank, and 24 where the buffer is shorter than the bank.
+// Writes the count, the entries and the data. The number is 9 if they do not make a good bank, and 24 if the buffer is shorter than the bank.
 pub fn write(kinds: &[u16], offsets: &[u32], counts: &[u32], data: &[u8], out: &mut [u8]) -> Written
     ensures { λ r. ⌜ record { number = r .number; length = r .length; out = now (out .exit) } ≡ writtenOf (lists (now (kinds .entry)) (now (offsets .entry)) (now (counts .entry))) (now («data» .entry)) (now (out .entry)) ⌝ }
 {
