@@ -1,5 +1,5 @@
-use borrow.Author.Needs.{needs}
 use native.Mathlib.Omega.{arith}
+use borrow.Author.Needs.{needs}
 use Rattle.bank.proofs.Laws.{good-is}
 use Rattle.bank.proofs.Finds.{find-9, title-good, house-good, find-title, find-house, find-10}
 use Rattle.bank.proofs.find.Statement.{statement}

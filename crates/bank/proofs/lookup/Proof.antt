@@ -1,5 +1,5 @@
-use borrow.Author.Needs.{needs}
 use mathlib.Core.Bool.{true, false}
+use borrow.Author.Needs.{needs}
 use Rattle.bank.proofs.Finds.{found-end, found-fits, found-part}
 use Rattle.bank.proofs.lookup.Statement.{statement}
 use Rattle.bank.proofs.lookup.Tie as tie

@@ -1,6 +1,6 @@
-use borrow.Author.Needs.{needs}
 use mathlib.Core.Path.{_≡_}
 use Prim.Native.Nat.{_-_, _≤_}
+use borrow.Author.Needs.{needs}
 use lib.ListN.{length}
 use Rattle.bank.specs.declared.Damage.the-variants.{Nowhere}
 use Rattle.bank.specs.Bank.{damageBelow}

@@ -1,9 +1,9 @@
-use borrow.Author.Needs.{needs}
 use Prim.Native.Nat.{_-_, _≤_}
+use borrow.Author.Needs.{needs}
 use lib.ListN.{length, take}
 use Rattle.little_endian.specs.Bytes.{Put}
-use Rattle.bank_write.proofs.Bytes.{data-more, data-end}
 use Rattle.little_endian.proofs.Puts.{put-none}
+use Rattle.bank_write.proofs.Bytes.{data-more, data-end}
 use Rattle.bank_write.proofs.put_data.Statement.{statement}
 use Rattle.bank_write.proofs.put_data.Tie as tie
 

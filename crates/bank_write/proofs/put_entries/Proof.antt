@@ -1,5 +1,5 @@
-use borrow.Author.Needs.{needs}
 use Prim.Native.Nat.{_-_, _≤_}
+use borrow.Author.Needs.{needs}
 use lib.ListN.{length}
 use Rattle.little_endian.specs.Bytes.{each, Put}
 use Rattle.little_endian.proofs.Puts.{each-none, each-more, each-end}

@@ -1,6 +1,6 @@
-use borrow.Author.Needs.{needs}
-use native.Mathlib.Omega.{arith}
 use mathlib.Core.List.{[]}
+use native.Mathlib.Omega.{arith}
+use borrow.Author.Needs.{needs}
 use Rattle.bank_write.specs.Write.{lists}
 use Rattle.bank_write.proofs.Bytes.{write-9, write-sized, write-24, write-0}
 use Rattle.bank_write.proofs.write.Statement.{statement}

@@ -1,5 +1,5 @@
-use borrow.Author.Needs.{needs}
 use Prim.Native.Nat.{_-_, _≤_}
+use borrow.Author.Needs.{needs}
 use lib.ListN.{length}
 use Rattle.banks.proofs.begins.Statement.{statement}
 use Rattle.banks.proofs.begins.Tie as tie

@@ -1,5 +1,5 @@
-use borrow.Author.Needs.{needs}
 use Prim.Native.Nat.{_-_, _≤_}
+use borrow.Author.Needs.{needs}
 use Rattle.banks.proofs.print_sounds.Statement.{statement}
 use Rattle.banks.proofs.print_sounds.Tie as tie
 

@@ -1,6 +1,6 @@
 use mathlib.Core.Path.{sym}
-use lib.Seq.{length-take-le}
 use borrow.Author.Needs.{needs}
+use lib.Seq.{length-take-le}
 use Rattle.banks.proofs.print_written.Statement.{statement}
 use Rattle.banks.proofs.print_written.Tie as tie
 
