@@ -14,7 +14,7 @@ static size_t width(enum which which)
     return widths[which];
 }
 
-static void *allocate(size_t bytes)
+void *lent_allocate(size_t bytes)
 {
     void *data = malloc(bytes > 0 ? bytes : 1);
     if (!data) {
@@ -28,7 +28,7 @@ void lent_resize(struct lent *lent, enum which which, size_t count)
 {
     struct buffer *buffer = &lent->buffers[which];
     size_t kept = (count < buffer->count ? count : buffer->count) * width(which);
-    uint8_t *data = allocate(count * width(which));
+    uint8_t *data = lent_allocate(count * width(which));
     if (kept > 0)
         memcpy(data, buffer->data, kept);
     memset(data + kept, FILLER, count * width(which) - kept);
@@ -60,7 +60,7 @@ void lent_copy(struct lent *to, const struct lent *from)
     *to = *from;
     for (enum which k = 0; k < BUFFERS; k++) {
         size_t bytes = from->buffers[k].count * width(k);
-        to->buffers[k].data = allocate(bytes);
+        to->buffers[k].data = lent_allocate(bytes);
         memcpy(to->buffers[k].data, from->buffers[k].data, bytes);
     }
 }

@@ -17,6 +17,9 @@ struct lent {
     uint32_t address; /* of a view */
 };
 
+/* Allocates room for so many bytes, or ends the program. */
+void *lent_allocate(size_t bytes);
+
 /* Lends a fresh state with zero RAM and marks. The other buffers have lengths that are accepted, and hold A5h. */
 void lent_make(struct lent *lent, uint32_t size);
 void lent_free(struct lent *lent);

@@ -1,8 +1,8 @@
 #include "test_banks.h"
 #include "../tenonwhisk.h"
 #include "check.h"
+#include "lent.h"
 
-#include <stdio.h>
 #include <stdlib.h>
 #include <string.h>
 
@@ -21,19 +21,9 @@ struct entry {
     uint32_t count;
 };
 
-static void *allocate(size_t bytes)
-{
-    void *data = malloc(bytes > 0 ? bytes : 1);
-    if (!data) {
-        fputs("not enough memory\n", stderr);
-        exit(EXIT_FAILURE);
-    }
-    return data;
-}
-
 static struct bank bank_filled(size_t length)
 {
-    struct bank bank = {allocate(length), length};
+    struct bank bank = {lent_allocate(length), length};
     memset(bank.bytes, FILLER, length);
     return bank;
 }
