@@ -52,6 +52,7 @@ isEntry end size n e = isSound end size e || isAlias n e
 
 -- ---- damage
 
+-- the first of two that is damage
 abbrev pub earlier : Damage → Damage → Damage
 earlier Nowhere d = d
 earlier InHeader d = InHeader
@@ -94,10 +95,10 @@ soundOf entry n = leadsTo entry n n
 abbrev pub nothing : ℕ → Found
 nothing number = record { number = number; house = false; entry = 0; offset = 0; length = 0 }
 
-unfoldable pub foundIn : Bool → List ℕ → ℕ → Found
-foundIn house bank n =
+unfoldable pub foundIn : (isHouse : Bool) → List ℕ → ℕ → Found
+foundIn isHouse bank n =
     let s = soundOf (entryAt bank) n in
-    record { number = 0; house = house; entry = s; offset = entryAt bank s .offset; length = entryAt bank s .count * 16 }
+    record { number = 0; house = isHouse; entry = s; offset = entryAt bank s .offset; length = entryAt bank s .count * 16 }
 
 -- "9 either bank damaged", "10 no such entry in either"
 unfoldable pub foundOf : (title house : List ℕ) → ℕ → Found

@@ -201,7 +201,7 @@ fn find_in(house: bool, bank: &[u8], n: u32) -> Found
     }
 }
 
-// Where the sound with this number is. The refusal's number is 9 if either bank is damaged, and 10 if neither has such an entry.
+// Where sound n is. It is refused with 9 if either bank is damaged, and with 10 if neither has an entry n.
 pub fn find(title: &[u8], house: &[u8], n: u32) -> Found
     ensures { λ r. ⌜ r ≡ foundOf (now (title .entry)) (now (house .entry)) n ⌝ }
 {

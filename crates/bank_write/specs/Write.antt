@@ -46,7 +46,7 @@ isEntryIn ls size n = isEntry (headerEnd (entriesIn ls)) size n (entryIn ls n)
 unfoldable pub areSized : Lists → Bool
 areSized ls = eqb (length (ls .offsets)) (entriesIn ls) && (eqb (length (ls .counts)) (entriesIn ls) && leb (entriesIn ls) mostEntries)
 
--- they are, and the bank to be written is good
+-- the lists are sized so, and the bank to be written is good
 unfoldable pub isWritable : Lists → List ℕ → Bool
 isWritable ls «data» = areSized ls && isGood (bankOf ls «data»)
 
@@ -71,8 +71,8 @@ writtenOf ls «data» out =
 abbrev pub soundIn : Lists → List ℕ → ℕ → List ℕ
 soundIn ls bank n = let e = entryIn ls (soundOf (entryIn ls) n) in take (e .count * 16) (drop (e .offset) bank)
 
--- `file` is read as `bank`, a bank of these entries: it is good and has the same entries, and a lookup in it gives the same sounds, as the title's bank and as
--- the house's
+-- `file` reads back as `bank`, a bank of these entries. It is good and has the same entries. A lookup gives the same sounds, whether `file` is the title's bank
+-- or the house's.
 pub record ReadBack (ls : Lists) (bank file : List ℕ) : Type 0 where
   pub good : isGood file ≡ true
   pub count : countOf file ≡ entriesIn ls

@@ -3,13 +3,13 @@ ghost use mathlib.Core.Path.{_≡_};
 ghost use Prim.Native.Nat.{_+_, _≤_};
 ghost use lib.ListN.{length};
 ghost use Rattle.little_endian.specs.Bytes.{Put};
-ghost use Rattle.bank.specs.Bank.{placeOf, damageBelow, isNowhere};
+ghost use Rattle.bank.specs.Bank.{mostEntries, placeOf, damageBelow, isNowhere};
 ghost use Rattle.bank_write.specs.Write.{lists, entryBytes, entriesBytes, headerBytes, isEntryIn, areSized, isWritable, writtenOf};
 use bank::Entry;
 use little_endian::put_half;
 use little_endian::put_word;
 
-// The number, and the length of the bank.
+// What a write answers. The length is 0 if it is refused.
 #[repr(C)]
 pub struct Written {
     pub number: u8,
@@ -18,7 +18,7 @@ pub struct Written {
 
 // Whether each entry of the lists is good in a file of `size` bytes.
 fn are_entries(kinds: &[u16], offsets: &[u32], counts: &[u32], size: usize) -> bool
-    requires { ⌜ (length (now kinds) ≤ 1024) × (length (now offsets) ≡ length (now kinds)) × (length (now counts) ≡ length (now kinds)) ⌝ }
+    requires { ⌜ (length (now kinds) ≤ mostEntries) × (length (now offsets) ≡ length (now kinds)) × (length (now counts) ≡ length (now kinds)) ⌝ }
     ensures { λ r. ⌜ r ≡ isNowhere (damageBelow (isEntryIn (lists (now (kinds .entry)) (now (offsets .entry)) (now (counts .entry))) size) (length (now (kinds .entry)))) ⌝ }
 {
     let end = bank::header_end(kinds.len() as u16);
@@ -67,7 +67,7 @@ fn put_entry(out: &mut [u8], at: usize, kind: u16, offset: u32, count: u32)
 }
 
 fn put_entries(out: &mut [u8], kinds: &[u16], offsets: &[u32], counts: &[u32])
-    requires { ⌜ (length (now kinds) ≤ 1024) × (length (now offsets) ≡ length (now kinds)) × (length (now counts) ≡ length (now kinds)) × (placeOf (length (now kinds)) ≤ length (now out)) ⌝ }
+    requires { ⌜ (length (now kinds) ≤ mostEntries) × (length (now offsets) ≡ length (now kinds)) × (length (now counts) ≡ length (now kinds)) × (placeOf (length (now kinds)) ≤ length (now out)) ⌝ }
     ensures { λ _. ⌜ Put (entriesBytes (lists (now (kinds .entry)) (now (offsets .entry)) (now (counts .entry)))) (now (out .entry)) 2 (now (out .exit)) ⌝ }
 {
     for n in 0..kinds.len() {
@@ -76,7 +76,7 @@ fn put_entries(out: &mut [u8], kinds: &[u16], offsets: &[u32], counts: &[u32])
 }
 
 fn put_header(out: &mut [u8], kinds: &[u16], offsets: &[u32], counts: &[u32])
-    requires { ⌜ (length (now kinds) ≤ 1024) × (length (now offsets) ≡ length (now kinds)) × (length (now counts) ≡ length (now kinds)) × (placeOf (length (now kinds)) ≤ length (now out)) ⌝ }
+    requires { ⌜ (length (now kinds) ≤ mostEntries) × (length (now offsets) ≡ length (now kinds)) × (length (now counts) ≡ length (now kinds)) × (placeOf (length (now kinds)) ≤ length (now out)) ⌝ }
     ensures { λ _. ⌜ Put (headerBytes (lists (now (kinds .entry)) (now (offsets .entry)) (now (counts .entry)))) (now (out .entry)) 0 (now (out .exit)) ⌝ }
 {
     put_half(out, 0, kinds.len() as u16);

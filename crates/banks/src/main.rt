@@ -9,7 +9,7 @@ use libc::STDOUT_FILENO;
 
 const ROOM: usize = 512;
 
-// How many the title's bank has.
+// How many entries the title's bank has.
 const ENTRIES: usize = 6;
 
 // ---- output

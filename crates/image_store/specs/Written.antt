@@ -1,4 +1,4 @@
--- What the writing functions learn of a state's parts from their types. Assumes nothing.
+-- What the types of a state's parts say, for the functions that write them. Assumes nothing.
 use mathlib.Core.Path.{_≡_}
 use mathlib.Core.List.{List}
 use Prim.Native.Nat.{ℕ, _<_}

@@ -35,7 +35,7 @@ wordAt bs at = halfAt bs at + halfAt bs (at + 2) * 0x10000
 
 -- ---- bytes that are put
 
--- ys was put at a place of xs, which is xs′ now: up to the end of ys it is xs up to the place, then ys; past that end it is xs; and it is as long as xs
+-- xs′ is xs with ys put at a place: before the place and past the end of ys it is xs, and it is as long
 pub record Put (ys xs : List ℕ) (at : ℕ) (xs′ : List ℕ) : Type 0 where
   pub is : take (at + length ys) xs′ ≡ take at xs ++ ys
   pub past : drop (at + length ys) xs′ ≡ drop (at + length ys) xs

@@ -7,6 +7,7 @@ use bank::Damage;
 use bank::Found;
 use bank_write::Written;
 
+// The place is 0 for nowhere, 1 for the header, 2 for the entry.
 #[repr(C)]
 pub struct Checked {
     pub number: u8,

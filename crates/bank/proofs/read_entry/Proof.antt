@@ -19,7 +19,7 @@ cast-if2 c = search needs
 returns-2 : tie.Need-returns-2
 returns-2 c =
     let b = c .before .before in
-    fields-10 _ (b .before .has-header .ensures) (b .if1 .left) _ (c .before .entry-count .ensures) (c .if2 .taken)
+    fields-10 _ (b .before .has-header .ensures) (b .if1 .left) _ (c .before .entry-count .ensures) (omega (arith, c .if2 .taken))
 
 entry-at-requires : tie.Need-entry-at-requires
 entry-at-requires c κs =

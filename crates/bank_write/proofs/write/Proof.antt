@@ -34,7 +34,7 @@ returns-2 : tie.Need-returns-2
 returns-2 c =
     let d = c .before .before in
     let z = d .before .before .before .before .before .before .before in
-    write-24 (lists (z .args .kinds .now) (z .args .offsets .now) (z .args .counts .now)) _ _ (d .before .is-writable .ensures) (d .if1 .left) (c .before .header-end .ensures) (c .if2 .taken)
+    write-24 (lists (z .args .kinds .now) (z .args .offsets .now) (z .args .counts .now)) _ _ (d .before .is-writable .ensures) (d .if1 .left) (c .before .header-end .ensures) (omega (arith, c .if2 .taken))
 
 put-header-requires : tie.Need-put-header-requires
 put-header-requires c κs =
