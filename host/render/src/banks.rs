@@ -9,8 +9,8 @@ use crate::damage;
 use crate::failure::Failure;
 use crate::source::Source;
 
-/// The longest bank that is read, so that a file without end does not fill the memory. Sounds that fill 512 KiB of sound
-/// RAM each take half of it, as many as a bank can have.
+/// The longest bank that is read, so that a file without end does not fill the memory. A bank of 1,024 sounds that each
+/// fill 512 KiB of sound RAM takes half of it.
 const MOST_BYTES: u64 = 1 << 30;
 
 /// The title's bank and the house's. One that is not named has no entries.
@@ -53,7 +53,7 @@ pub fn read(source: Source) -> Result<Vec<u8>, Failure> {
 fn bytes(file: File, most: u64) -> io::Result<Vec<u8>> {
     let mut bytes = Vec::new();
     if file.metadata()?.len() > most || file.take(most + 1).read_to_end(&mut bytes)? as u64 > most {
-        return Err(io::Error::other("it has more than 1 GiB, and no bank needs as much"));
+        return Err(io::Error::other("it is longer than 1 GiB, and no bank needs to be"));
     }
     Ok(bytes)
 }
@@ -65,7 +65,7 @@ mod tests {
     #[test]
     fn a_file_without_end_is_not_read_to_its_end() {
         let error = bytes(File::open("/dev/zero").unwrap(), 100).unwrap_err();
-        assert_eq!(error.to_string(), "it has more than 1 GiB, and no bank needs as much");
+        assert_eq!(error.to_string(), "it is longer than 1 GiB, and no bank needs to be");
         assert_eq!(bytes(File::open("/dev/null").unwrap(), 100).unwrap(), []);
     }
 

@@ -26,7 +26,8 @@ fn of_header(bank: &[u8]) -> String {
         return format!("it counts {count} entries, but a bank has at most {MOST_ENTRIES}");
     }
     let header = bank::length(count.into(), 0);
-    format!("it takes {header} bytes for {}, but the file has {length}", counted(count.into(), "entry", "entries"))
+    let (entries, has) = (counted(count.into(), "entry", "entries"), counted(length as u64, "byte", "bytes"));
+    format!("it takes {header} bytes for {entries}, but the file has {has}")
 }
 
 /// What the entries of a bank are judged against.
@@ -133,9 +134,9 @@ mod tests {
             (&[1], "the file has 1 byte, but the number of entries takes 2 bytes"),
             (&[1, 4, 0], "it counts 1025 entries, but a bank has at most 1024"),
             (&[0xFF; 100], "it counts 65535 entries, but a bank has at most 1024"),
-            (&[1, 0], "it takes 12 bytes for 1 entry, but the file has 2"),
+            (&[1, 0], "it takes 12 bytes for 1 entry, but the file has 2 bytes"),
             (&[7; 50][..], "it counts 1799 entries, but a bank has at most 1024"),
-            (&[7, 0, 0], "it takes 72 bytes for 7 entries, but the file has 3"),
+            (&[7, 0, 0], "it takes 72 bytes for 7 entries, but the file has 3 bytes"),
         ] {
             assert_eq!(first(bank), Some(format!("the header is damaged: {why}")));
         }

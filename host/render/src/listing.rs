@@ -99,7 +99,7 @@ impl Listing {
         let used = self.used();
         let (header, unused) = (self.header, self.length - self.header - used);
         format!(
-            "{} ({}), {} ({header} header, {used} sounds, {unused} unused)",
+            "{} ({}), {} ({header} in the header, {used} in sounds, {unused} unused)",
             counted(self.entries.len() as u64, "entry", "entries"),
             kinds.join(", "),
             counted(self.length, "byte", "bytes"),

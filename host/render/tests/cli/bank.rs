@@ -28,7 +28,7 @@ fn a_good_bank_is_listed() {
             "    5  alias       -       -  leads through 4, 3, 2 to entry 1",
             "    6  alias       -       -  leads through 5, 4, 3 and 1 more to entry 1",
             "    7  sound      96       2",
-            "a.bank: 8 entries (3 sounds, 5 aliases), 13205 bytes (82 header, 3232 sounds, 9891 unused)",
+            "a.bank: 8 entries (3 sounds, 5 aliases), 13205 bytes (82 in the header, 3232 in sounds, 9891 unused)",
         ]
     );
 }
@@ -39,7 +39,10 @@ fn a_bank_of_no_entries_is_good() {
     folder.write("a.bank", [0; 3]);
     let ran = folder.bank(&["a.bank"]);
     ran.is(0, "");
-    assert_eq!(printed(&ran), ["a.bank: 0 entries (0 sounds, 0 aliases), 3 bytes (2 header, 0 sounds, 1 unused)"]);
+    assert_eq!(
+        printed(&ran),
+        ["a.bank: 0 entries (0 sounds, 0 aliases), 3 bytes (2 in the header, 0 in sounds, 1 unused)"]
+    );
 }
 
 #[test]
@@ -72,7 +75,8 @@ fn every_damaged_entry_is_marked_and_the_first_is_named() {
             "    6  sound          40           0  DAMAGED: it begins at byte 40, but the header ends at byte 82; it \
              begins at byte 40, which is not a multiple of 16; it has no blocks",
             "    7  sound  4294967280  4294967295  DAMAGED: it ends at byte 73014444000, but the file has 65536 bytes",
-            "a.bank: 8 entries (0 sounds, 2 aliases, 6 damaged), 65536 bytes (82 header, 0 sounds, 65454 unused)",
+            "a.bank: 8 entries (0 sounds, 2 aliases, 6 damaged), 65536 bytes (82 in the header, 0 in sounds, 65454 \
+             unused)",
         ]
     );
 }
@@ -84,7 +88,7 @@ fn a_damaged_header_says_which_rule() {
         (vec![], "the file is empty, but the number of entries takes 2 bytes"),
         (vec![0], "the file has 1 byte, but the number of entries takes 2 bytes"),
         (vec![1, 4], "it counts 1025 entries, but a bank has at most 1024"),
-        (bank_of(&[(0, 48, 1), (1, 0, 0)], 21), "it takes 22 bytes for 2 entries, but the file has 21"),
+        (bank_of(&[(0, 48, 1), (1, 0, 0)], 21), "it takes 22 bytes for 2 entries, but the file has 21 bytes"),
     ] {
         folder.write("a.bank", bank);
         let ran = folder.bank(&["a.bank"]);
@@ -122,7 +126,8 @@ fn any_bytes_are_listed_in_plain_lines() {
 fn standard_input_and_pipes_are_banks() {
     let folder = Folder::new("bank-input");
     folder.write("a.bank", bank_of(&[(0, 16, 1)], 32));
-    let listed = |name| format!("{name}: 1 entry (1 sound, 0 aliases), 32 bytes (12 header, 16 sounds, 4 unused)");
+    let listed =
+        |name| format!("{name}: 1 entry (1 sound, 0 aliases), 32 bytes (12 in the header, 16 in sounds, 4 unused)");
     for (line, name) in [
         ("\"$BANK\" - <a.bank", "standard input"),
         ("cat a.bank | \"$BANK\" -", "standard input"),
@@ -144,7 +149,7 @@ fn a_file_that_cannot_be_read_is_told() {
     File::create(folder.path("huge.bank")).unwrap().set_len(10 << 30).unwrap();
     folder.bank(&["missing.bank"]).is(4, "cannot read missing.bank: No such file or directory\n");
     folder.bank(&["folder"]).is(4, "cannot read folder: Is a directory\n");
-    folder.bank(&["huge.bank"]).is(4, "cannot read huge.bank: it has more than 1 GiB, and no bank needs as much\n");
+    folder.bank(&["huge.bank"]).is(4, "cannot read huge.bank: it is longer than 1 GiB, and no bank needs to be\n");
 }
 
 #[test]

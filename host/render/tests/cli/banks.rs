@@ -179,7 +179,7 @@ fn a_damaged_bank_is_refused_before_anything_is_rendered() {
         ),
         (
             ["--house=header.bank", "--ram=64"],
-            "header.bank: the header is damaged: it takes 92 bytes for 9 entries, but the file has 3",
+            "header.bank: the header is damaged: it takes 92 bytes for 9 entries, but the file has 3 bytes",
         ),
         (
             ["--title=empty.bank", "--ram=64"],
@@ -206,7 +206,7 @@ fn a_bank_that_cannot_be_read_is_told() {
         for (bank, words) in [
             ("missing.bank", "No such file or directory"),
             ("folder", "Is a directory"),
-            ("huge.bank", "it has more than 1 GiB, and no bank needs as much"),
+            ("huge.bank", "it is longer than 1 GiB, and no bank needs to be"),
         ] {
             folder
                 .render(&["s.txt", "out.wav", option, bank])
