@@ -16,12 +16,18 @@ pub const STANDARD_ERROR: &str = "standard error";
 pub struct Identity {
     device: u64,
     inode: u64,
+    is_pipe: bool,
 }
 
 impl Identity {
     pub fn of(metadata: &Metadata) -> Option<Identity> {
-        let kind = metadata.file_type();
-        (kind.is_file() || kind.is_fifo()).then(|| Identity { device: metadata.dev(), inode: metadata.ino() })
+        let is_pipe = metadata.file_type().is_fifo();
+        let identity = Identity { device: metadata.dev(), inode: metadata.ino(), is_pipe };
+        (metadata.is_file() || is_pipe).then_some(identity)
+    }
+
+    pub fn is_pipe(&self) -> bool {
+        self.is_pipe
     }
 }
 

@@ -36,9 +36,10 @@ Spaces, tabs and CR separate fields. FILE is the rest of the line, so its name m
 FILE is looked for beside the script, or in the current folder if the script is standard input or a pipe. A
 load takes no time, works whatever SPUCNT says, and leaves all registers as they are.
 
-A line b does what lines s with all halfwords of the sound would do: a transfer mode has to be applied, and
-the transfer address moves on. If it is refused, nothing is moved. A bank of more than 1 GiB is not read. If a
-bank is damaged, render says where and renders nothing. The program bank lists a bank.
+A line b does what lines s with all halfwords of the sound would do. It needs transfer mode 1 or 2 to be
+applied, and moves the transfer address on. If it is refused, nothing is moved. A bank of more than 1 GiB is
+not read. If a bank is damaged, render says where and renders nothing. SCRIPT, the title's bank and the
+house's bank cannot share a pipe or standard input. The program bank lists a bank.
 
 render reports a line that is bad or refused by its number, and leaves it out. It also reports the first tick
 from which the sound may rest on memory that nobody loaded.

@@ -57,6 +57,9 @@ impl<'a> Rendering<'a> {
         for bank in [&title, &house].into_iter().flatten() {
             refuse_same(&bank.name, bank.identity, &target)?;
         }
+        refuse_shared("SCRIPT and the title's bank", Some(&source), title.as_ref())?;
+        refuse_shared("SCRIPT and the house's bank", Some(&source), house.as_ref())?;
+        refuse_shared("the title's bank and the house's", title.as_ref(), house.as_ref())?;
         target.check_replaceable()?;
         let loader = Loader::new(options.size).map_err(|refusal| Failure::new(refusal.to_string()))?;
         let banks = Banks::read(title, house)?;
@@ -211,6 +214,16 @@ fn refuse_same(name: &str, identity: Option<Identity>, target: &Target) -> Resul
         return Ok(());
     }
     Err(Failure::new(format!("{name} and the output {} are the same file; nothing was written", target.name)))
+}
+
+/// The first to be read would leave nothing for the second.
+fn refuse_shared(roles: &str, one: Option<&Source>, other: Option<&Source>) -> Result<(), Failure> {
+    match (one, other) {
+        (Some(one), Some(other)) if one.shares_bytes(other) => {
+            Err(Failure::new(format!("{} cannot be both {roles}", one.name)))
+        }
+        _ => Ok(()),
+    }
 }
 
 /// Messages must not land in the sound.

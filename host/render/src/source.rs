@@ -19,7 +19,7 @@ pub struct Source {
 }
 
 enum Place {
-    Open(File),
+    StandardInput(File),
     Named(PathBuf),
 }
 
@@ -50,7 +50,7 @@ impl Source {
             name: files::STANDARD_INPUT.to_owned(),
             identity: Identity::of(&metadata),
             folder: PathBuf::new(),
-            place: Place::Open(file),
+            place: Place::StandardInput(file),
         })
     }
 
@@ -73,9 +73,18 @@ impl Source {
         })
     }
 
+    /// Whether bytes that one reads are lost to the other: both are standard input, or one pipe. A regular file that is
+    /// named twice is opened twice.
+    pub fn shares_bytes(&self, other: &Source) -> bool {
+        match (&self.place, &other.place) {
+            (Place::StandardInput(_), Place::StandardInput(_)) => true,
+            _ => self.identity.is_some_and(|identity| identity.is_pipe()) && self.identity == other.identity,
+        }
+    }
+
     pub fn open(self) -> Result<File, Failure> {
         match self.place {
-            Place::Open(file) => Ok(file),
+            Place::StandardInput(file) => Ok(file),
             Place::Named(path) => File::open(path).map_err(|error| Failure::reading(self.name, &error)),
         }
     }

@@ -136,7 +136,8 @@ fn refusals_are_told_with_their_lines_and_the_rest_is_rendered() {
 #[test]
 fn a_refused_sound_moves_nothing() {
     let folder = folder("banks-nothing");
-    for refused in ["w 1AA C000\nt 1\nw 1A6 200\nb 0\nw 1AA C010\nt 1\n", "b 9\n"] {
+    let in_mode = |spucnt| format!("w 1AA {spucnt}\nt 1\nw 1A6 200\nb 0\nw 1AA C010\nt 1\n");
+    for refused in [in_mode("C000"), in_mode("C030"), "b 9\n".to_owned()] {
         folder.write("with.txt", moving(&format!("{refused}b 1\n")));
         folder.write("without.txt", moving(&format!("{}b 1\n", refused.replace("b 0\n", "").replace("b 9\n", ""))));
         assert_eq!(folder.render(&[&["with.txt", "with.wav"][..], &BOTH].concat()).status, Some(2));
@@ -221,4 +222,55 @@ fn a_pipe_is_a_bank() {
     assert_moves(&folder, &["--title", "title.bank"], "b 0\n", &[BLOCK, BLOCK].concat());
     folder.shell("cat title.bank | \"$RENDER\" b.txt pipe.wav --title /dev/stdin").is(0, "pipe.wav: 0.100 s\n");
     assert_eq!(folder.read("pipe.wav"), folder.read("b.wav"));
+}
+
+#[test]
+fn script_and_banks_do_not_come_from_one_pipe() {
+    let folder = folder("banks-one-pipe");
+    folder.write("b.txt", moving("b 0\n"));
+    folder.shell("mkfifo f").is(0, "");
+    folder.link("f", "g");
+    for (line, words) in [
+        ("cat b.txt | X - out.wav --title /dev/stdin", "standard input cannot be both SCRIPT and the title's bank"),
+        ("cat b.txt | X - out.wav --house /dev/fd/0", "standard input cannot be both SCRIPT and the house's bank"),
+        (
+            "cat b.txt | X /dev/stdin out.wav --title title.bank --house /dev/stdin",
+            "standard input cannot be both SCRIPT and the house's bank",
+        ),
+        (
+            "cat title.bank | X b.txt out.wav --title /dev/stdin --house /dev/stdin",
+            "standard input cannot be both the title's bank and the house's",
+        ),
+        ("X - out.wav --title /dev/stdin <b.txt", "standard input cannot be both SCRIPT and the title's bank"),
+        ("X - out.wav --house /dev/stdin </dev/null", "standard input cannot be both SCRIPT and the house's bank"),
+        ("cat b.txt | X - out.wav --title /dev/fd/3 3<&0", "standard input cannot be both SCRIPT and the title's bank"),
+        ("X f out.wav --title g", "f cannot be both SCRIPT and the title's bank"),
+        ("X b.txt out.wav --title g --house f", "g cannot be both the title's bank and the house's"),
+    ] {
+        let line = line.replace('X', "\"$RENDER\"");
+        folder.shell(&line).is(4, &format!("{words}\nout.wav was not written\n"));
+    }
+    assert!(!folder.names().contains(&"out.wav".to_owned()));
+}
+
+#[test]
+fn script_and_banks_may_come_from_two_pipes() {
+    let folder = folder("banks-two-pipes");
+    assert_moves(&folder, &BOTH, "b 2\n", &BLOCK);
+    folder
+        .shell("cat house.bank | { cat b.txt | \"$RENDER\" - out.wav --title title.bank --house /dev/fd/3; } 3<&0")
+        .is(0, "out.wav: 0.100 s\n");
+    assert_eq!(folder.read("out.wav"), folder.read("b.wav"));
+}
+
+#[test]
+fn one_file_may_be_both_banks() {
+    let folder = folder("banks-one-file");
+    folder.hard_link("title.bank", "same.bank");
+    assert_moves(&folder, &["--title", "title.bank", "--house", "./title.bank"], "b 1\n", &other());
+    assert_moves(&folder, &["--title", "title.bank", "--house", "same.bank"], "b 1\n", &other());
+    folder
+        .shell("\"$RENDER\" b.txt out.wav --title /dev/stdin --house title.bank <title.bank")
+        .is(0, "out.wav: 0.100 s\n");
+    assert_eq!(folder.read("out.wav"), folder.read("b.wav"));
 }
