@@ -6,11 +6,11 @@
  *   ram     L bytes of sound RAM; L is 65,536 or 524,288, and each state is made for one of the two
  *   marks   L/16 bytes: bit h % 8 of byte h / 8 says that the halfword at address 2h is loaded; zero them to begin with
  *
- * A slice is a pointer and its number of elements, not bytes. The slices of one call must not overlap. No pointer may
- * be NULL, not even with length 0. The library checks everything else: wrong lengths, damaged states and banks, and bad
- * arguments are refused. A refused call returns its number and zero results, and leaves every lent byte as it was.
- * There is one exception: for a size other than the two, tenonwhisk_make returns 1 and still writes the state for
- * 65,536.
+ * A slice is a pointer and its number of elements, not bytes. The slices of one call must not overlap, except the two
+ * banks of a lookup. No pointer may be NULL, not even with length 0. The library checks everything else: wrong lengths,
+ * damaged states and banks, and bad arguments are refused. A refused call returns its number and zero results, and
+ * leaves every lent byte as it was. There is one exception: for a size other than the two, tenonwhisk_make returns 1
+ * and still writes the state for 65,536.
  *
  * Saved states. A state is plain bytes: copy it, save it, send it elsewhere, with RAM and marks beside it. Its first
  * four bytes name its layout (docs/STATE.md). A library with another layout refuses it with 2; it never
@@ -242,10 +242,11 @@ static inline const uint8_t *tenonwhisk_block_view(const uint8_t *state, size_t 
  *   alias    kind 1: another number for an entry that stands before it, a sound or an alias. Its offset is the number
  *            of that entry, and its count is 0.
  *
- * Anything else is damage, and so is a header that counts more entries or is longer than the bank. Sounds may overlap
- * and stand in any order, and bytes may belong to none. A bank of no entries is good; a bank of no bytes is damaged.
+ * Anything else is damage, and so is a header that counts more than 1,024 entries or is longer than the bank. Sounds
+ * may overlap and stand in any order, and bytes may belong to none. A bank of no entries is good; a bank of no bytes is
+ * damaged.
  *
- * These calls need no state. A bank that is looked at is only read, and the two banks of one call may overlap. */
+ * These calls need no state. A bank that is looked at is only read, so the two banks of a lookup may overlap. */
 enum tenonwhisk_bank_kind { TENONWHISK_BANK_SOUND = 0, TENONWHISK_BANK_ALIAS = 1 };
 
 /* The most entries of a bank. */
@@ -269,7 +270,7 @@ struct tenonwhisk_bank_found {
 };
 
 /* Finds a sound by the number of its entry: in the title's bank or, if that has no entry with this number, in the
- * house's. An alias leads to a sound of its own bank. Both banks must be good, also the one that is not needed.
+ * house's. An alias leads to a sound of its own bank. Both banks must be good, even the one that is not needed.
  * Numbers: 0, 9, 10. */
 struct tenonwhisk_bank_found tenonwhisk_bank_find(const uint8_t *title, size_t title_len, const uint8_t *house,
                                                   size_t house_len, uint32_t number);
@@ -286,7 +287,7 @@ static inline const uint8_t *tenonwhisk_bank_lookup(const uint8_t *title, size_t
 
 enum tenonwhisk_bank_place {
     TENONWHISK_BANK_GOOD = 0,
-    TENONWHISK_BANK_IN_HEADER = 1, /* no number of entries, more than 1,024 entries, or fewer bytes than they take */
+    TENONWHISK_BANK_IN_HEADER = 1, /* shorter than 2 bytes, more than 1,024 entries, or shorter than its header */
     TENONWHISK_BANK_AT_ENTRY = 2
 };
 
@@ -312,7 +313,7 @@ struct tenonwhisk_bank_fields tenonwhisk_bank_entry(const uint8_t *bank, size_t 
 
 struct tenonwhisk_bank_written {
     uint8_t number;
-    size_t length; /* of the bank, in bytes */
+    size_t length; /* of the bank, in bytes; 0 if refused */
 };
 
 /* Returns the length of a bank with so many entries and bytes of data: what tenonwhisk_bank_write needs room for. */

@@ -96,7 +96,7 @@ pub struct Found {
 /// Where a bank is damaged first.
 #[derive(Debug, Clone, Copy, PartialEq, Eq, Hash)]
 pub enum Damage {
-    /// In its header: no number of entries, more than [`MOST_ENTRIES`], or fewer bytes than the entries take.
+    /// In its header: shorter than 2 bytes, more than [`MOST_ENTRIES`] entries, or shorter than its header.
     Header,
     /// At this entry.
     Entry(u32),
@@ -145,7 +145,7 @@ pub fn lookup<'a>(title: &'a [u8], house: &'a [u8], number: u32) -> Result<&'a [
 }
 
 /// Where the sound with a number stands: in the title's bank or, if that has no entry with this number, in the house's.
-/// An alias leads to a sound of its own bank. Both banks must be good, also the one that is not needed.
+/// An alias leads to a sound of its own bank. Both banks must be good, even the one that is not needed.
 pub fn find(title: &[u8], house: &[u8], number: u32) -> Result<Found, Refusal> {
     let ffi::Found { number, house, entry, offset, length } = ffi::bank_find(title, house, number);
     let owner = if house { Owner::House } else { Owner::Title };

@@ -51,7 +51,7 @@ pub struct Ran {
 /// RAM at address `2 * h` is loaded. The lengths are checked once, so a tick is refused only if an `M` of an unusual kind
 /// changes its length later.
 ///
-/// Chips share nothing: any number of them run side by side, on any threads. A call uses up to 32 KiB of stack.
+/// Chips share nothing: any number of them run side by side, on any threads. No call uses more than 40 KiB of stack.
 ///
 #[cfg_attr(feature = "alloc", doc = "```")]
 #[cfg_attr(not(feature = "alloc"), doc = "```ignore")]
