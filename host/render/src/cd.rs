@@ -1,11 +1,10 @@
 //! The CD input: a WAV file that is played once, and silence after it.
 
-use std::fs::{self, File};
+use std::fs::File;
 use std::io::{self, BufReader, Read};
-use std::path::Path;
 
 use crate::failure::Failure;
-use crate::files::{self, Identity};
+use crate::source::Source;
 use crate::wav::PAIR_BYTES;
 use crate::wav_in::{self, Extent, Unfit};
 use crate::words;
@@ -16,17 +15,9 @@ pub struct Cd {
 }
 
 impl Cd {
-    pub fn identity(path: &Path) -> Result<Option<Identity>, Failure> {
-        match fs::metadata(path) {
-            Ok(metadata) if metadata.is_dir() => Err(Failure::reading(words::name(path), &files::is_a_directory())),
-            Ok(metadata) => Ok(Identity::of(&metadata)),
-            Err(error) => Err(Failure::reading(words::name(path), &error)),
-        }
-    }
-
-    pub fn open(path: &Path) -> Result<Cd, Failure> {
-        let name = words::name(path);
-        let file = File::open(path).map_err(|error| Failure::reading(&name, &error))?;
+    pub fn open(source: Source) -> Result<Cd, Failure> {
+        let name = source.name.clone();
+        let file = source.open()?;
         let mut input = BufReader::new(file);
         match wav_in::find_sound(&mut input) {
             Ok(extent) => Ok(Cd { name, sound: Sound { input, extent, pairs: 0, bytes: Vec::new() } }),

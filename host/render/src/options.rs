@@ -38,8 +38,8 @@ load takes no time, works whatever SPUCNT says, and leaves all registers as they
 
 A line b does what lines s with all halfwords of the sound would do. It needs transfer mode 1 or 2 to be
 applied, and moves the transfer address on. If it is refused, nothing is moved. A bank of more than 1 GiB is
-not read. If a bank is damaged, render says where and renders nothing. SCRIPT, the title's bank and the
-house's bank cannot share a pipe or standard input. The program bank lists a bank.
+not read. If a bank is damaged, render says where and renders nothing. SCRIPT, the CD and the banks cannot
+share a pipe or standard input. The program bank lists a bank.
 
 render reports a line that is bad or refused by its number, and leaves it out. It also reports the first tick
 from which the sound may rest on memory that nobody loaded.

@@ -47,23 +47,20 @@ impl<'a> Rendering<'a> {
     ) -> Result<Rendering<'a>, Failure> {
         let source = Source::find(&options.script)?;
         let target = Target::find(&options.out)?;
-        refuse_same(&source.name, source.identity, &target)?;
+        let find = |path: &Option<PathBuf>| path.as_deref().map(Source::file).transpose();
+        let (cd, title, house) = (find(&options.cd)?, find(&options.title)?, find(&options.house)?);
         refuse_same(files::STANDARD_ERROR, standard_error(), &target)?;
-        if let Some(cd) = &options.cd {
-            refuse_same(&words::name(cd), Cd::identity(cd)?, &target)?;
-        }
-        let find_bank = |path: &Option<PathBuf>| path.as_deref().map(Source::file).transpose();
-        let (title, house) = (find_bank(&options.title)?, find_bank(&options.house)?);
-        for bank in [&title, &house].into_iter().flatten() {
-            refuse_same(&bank.name, bank.identity, &target)?;
-        }
-        refuse_shared("SCRIPT and the title's bank", Some(&source), title.as_ref())?;
-        refuse_shared("SCRIPT and the house's bank", Some(&source), house.as_ref())?;
-        refuse_shared("the title's bank and the house's", title.as_ref(), house.as_ref())?;
+        let inputs = [
+            ("SCRIPT", Some(&source)),
+            ("the CD", cd.as_ref()),
+            ("the title's bank", title.as_ref()),
+            ("the house's bank", house.as_ref()),
+        ];
+        refuse_clashes(&target, &inputs)?;
         target.check_replaceable()?;
         let loader = Loader::new(options.size).map_err(|refusal| Failure::new(refusal.to_string()))?;
         let banks = Banks::read(title, house)?;
-        let cd = options.cd.as_deref().map(Cd::open).transpose()?;
+        let cd = cd.map(Cd::open).transpose()?;
         let (script_name, folder) = (source.name.clone(), source.folder.clone());
         Ok(Rendering {
             console,
@@ -216,14 +213,17 @@ fn refuse_same(name: &str, identity: Option<Identity>, target: &Target) -> Resul
     Err(Failure::new(format!("{name} and the output {} are the same file; nothing was written", target.name)))
 }
 
-/// The first to be read would leave nothing for the second.
-fn refuse_shared(roles: &str, one: Option<&Source>, other: Option<&Source>) -> Result<(), Failure> {
-    match (one, other) {
-        (Some(one), Some(other)) if one.shares_bytes(other) => {
-            Err(Failure::new(format!("{} cannot be both {roles}", one.name)))
+/// Refuses inputs that are the output, and two that share their bytes: the first to be read would leave nothing for the
+/// second.
+fn refuse_clashes(target: &Target, inputs: &[(&str, Option<&Source>)]) -> Result<(), Failure> {
+    let inputs: Vec<_> = inputs.iter().filter_map(|&(role, source)| Some((role, source?))).collect();
+    for (k, &(role, source)) in inputs.iter().enumerate() {
+        refuse_same(&source.name, source.identity, target)?;
+        if let Some((other_role, other)) = inputs[..k].iter().find(|(_, other)| other.shares_bytes(source)) {
+            return Err(Failure::new(format!("{} cannot be both {other_role} and {role}", other.name)));
         }
-        _ => Ok(()),
     }
+    Ok(())
 }
 
 /// Messages must not land in the sound.

@@ -1,4 +1,4 @@
-//! Where a script or a sound bank is read from.
+//! Where a script, the CD or a sound bank is read from.
 
 use std::ffi::OsStr;
 use std::fs::{self, File};

@@ -239,13 +239,13 @@ fn script_and_banks_do_not_come_from_one_pipe() {
         ),
         (
             "cat title.bank | X b.txt out.wav --title /dev/stdin --house /dev/stdin",
-            "standard input cannot be both the title's bank and the house's",
+            "standard input cannot be both the title's bank and the house's bank",
         ),
         ("X - out.wav --title /dev/stdin <b.txt", "standard input cannot be both SCRIPT and the title's bank"),
         ("X - out.wav --house /dev/stdin </dev/null", "standard input cannot be both SCRIPT and the house's bank"),
         ("cat b.txt | X - out.wav --title /dev/fd/3 3<&0", "standard input cannot be both SCRIPT and the title's bank"),
         ("X f out.wav --title g", "f cannot be both SCRIPT and the title's bank"),
-        ("X b.txt out.wav --title g --house f", "g cannot be both the title's bank and the house's"),
+        ("X b.txt out.wav --title g --house f", "g cannot be both the title's bank and the house's bank"),
     ] {
         let line = line.replace('X', "\"$RENDER\"");
         folder.shell(&line).is(4, &format!("{words}\nout.wav was not written\n"));

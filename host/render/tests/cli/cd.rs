@@ -70,6 +70,17 @@ fn a_streamed_file_is_played_to_its_end() {
 }
 
 #[test]
+fn script_and_cd_do_not_come_from_one_pipe() {
+    let folder = Folder::new("cd-one-pipe");
+    folder.write("s.txt", passing_on(100));
+    folder.write("cd.wav", wav(&FORMAT, &ramp(100)));
+    for line in ["cat s.txt cd.wav | X - out.wav --cd /dev/stdin", "X - out.wav --cd /dev/fd/0 <s.txt"] {
+        let line = line.replace('X', "\"$RENDER\"");
+        folder.shell(&line).is(4, "standard input cannot be both SCRIPT and the CD\nout.wav was not written\n");
+    }
+}
+
+#[test]
 fn a_pipe_is_played() {
     let folder = Folder::new("cd-pipe");
     folder.write("s.txt", passing_on(300));
