@@ -1,7 +1,10 @@
 -- The noise generator's definitions at each outcome of their tests. Assumes nothing.
 use mathlib.Core.Path.{_≡_, refl, sym, ap, _∙_}
 use Prim.Native.Nat.{ℕ, zero, suc, _+_, _-_, _*_, _/_, _%_, _^_, _≤_, _<_}
+use native.Mathlib.Nat.{lt-of-le-of-lt}
 use native.Mathlib.Omega.{arith}
+use lib.Bits.{bitAnd, and-le-l}
+use lib.Count.{ones, ones-le}
 use lib.IntN.{ℤ, pos, negsuc, _+ℤ_, _-ℤ_}
 use lib.Dec.{leb, leb→le}
 use borrow.Author.Tests.{le-ltb, eq-eqb, ne-eqb}
@@ -9,26 +12,14 @@ use Rattle.fixed.specs.Range.{dn}
 use Rattle.fixed.specs.Bits.{field}
 use Rattle.fixed.proofs.Parts.{add-is, sub-parts, eq-parts, within}
 use Rattle.fixed.proofs.Table.{below-at}
-use Rattle.noise.specs.Noise.{xor, parityOf, shiftedOf, reloadOf, stepOf, refilled, tickedOf, writtenOf}
+use Rattle.noise.specs.Noise.{parityOf, shiftedOf, reloadOf, stepOf, refilled, tickedOf, writtenOf}
 use Rattle.noise.specs.declared.Noise.{Noise}
 
 -- ---- the shift register
 
-join : (a b : ℕ) → xor (a % 2) (b % 2) ≡ (a + b) % 2
-join a b = omega arith
-
-flip : (a : ℕ) → (a + 1) % 2 ≡ 1 - a % 2
-flip a = omega arith
-
-pub parity-sum : (level : ℕ) → (level / 0x8000 + level / 0x1000 + level / 0x800 + level / 0x400 + 1) % 2 ≡ parityOf level
-unfolding parityOf
-parity-sum level =
-    flip (level / 0x8000 + level / 0x1000 + level / 0x800 + level / 0x400)
-    ∙ ap (λ (n : ℕ). 1 - n)
-    (sym
-    (ap (λ (n : ℕ). xor (xor n (level / 0x800 % 2)) (level / 0x400 % 2)) (join (level / 0x8000) (level / 0x1000))
-    ∙ ap (λ (n : ℕ). xor n (level / 0x400 % 2)) (join (level / 0x8000 + level / 0x1000) (level / 0x800))
-    ∙ join (level / 0x8000 + level / 0x1000 + level / 0x800) (level / 0x400)))
+-- 16 bits have at most 16 ones under any mask
+pub count-fits : (level mask n : ℕ) → level < 0x10000 → n < 0x10000 → ones (bitAnd level mask) + n < 0x100000000
+count-fits level mask n h k = let m = ones-le 16 (bitAnd level mask) (lt-of-le-of-lt (and-le-l level mask) h) in omega arith
 
 pub parity-fits : (level p : ℕ) → p ≡ parityOf level → level % 0x8000 * 2 + p < 0x10000
 unfolding parityOf

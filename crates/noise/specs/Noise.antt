@@ -1,18 +1,33 @@
--- The noise generator of document 01, which follows 001's code. Assumes nothing.
+-- The noise generator of document 01, which follows 001's code; its parity as document 02 wants it. Assumes nothing.
 use mathlib.Core.Bool.{cond}
 use Prim.Native.Nat.{ℕ, zero, suc, _+_, _-_, _*_, _/_, _%_, _^_, _≤_}
 use lib.Dec.{eqb}
+use lib.Bits.{bitAnd}
+use lib.Count.{ones}
 use lib.IntN.{ℤ, pos, natAbs, _+ℤ_, _-ℤ_}
 use lib.Signed.{ltZ}
 use Rattle.fixed.specs.Bits.{field}
 use Rattle.noise.specs.declared.Noise.{Noise}
 
--- "(bits 15, 12, 11, 10 xored, inverted)", of bits that are 0 or 1
+-- the exclusive or of two bits, each 0 or 1
 abbrev pub xor : ℕ → ℕ → ℕ
 xor a b = (a + b) % 2
 
+-- "bits 15, 12, 11, 10 xored". The parity is counted below; `odd-exactly` in proofs/Taps says that both agree
+unfoldable pub xoredOf : ℕ → ℕ
+xoredOf level = xor (xor (xor (field 15 1 level) (field 12 1 level)) (field 11 1 level)) (field 10 1 level)
+
+-- document 02, M-102: "the four taps in one constant". They are bits 15, 12, 11 and 10
+abbrev pub taps : ℕ
+taps = 0x9C00
+
+-- "a count of ones under a mask": how many taps are set
+unfoldable pub tapsSet : ℕ → ℕ
+tapsSet level = ones (bitAnd level taps)
+
+-- "inverted": 1 if that count is even, 0 if it is odd
 unfoldable pub parityOf : ℕ → ℕ
-parityOf level = 1 - xor (xor (xor (field 15 1 level) (field 12 1 level)) (field 11 1 level)) (field 10 1 level)
+parityOf level = 1 - tapsSet level % 2
 
 -- "level = 2·level modulo 10000h plus (..)"
 unfoldable pub shiftedOf : ℕ → ℕ

@@ -7,11 +7,14 @@ pub struct Noise {
     pub timer: u32,
 }
 
-// The bit that is shifted in.
+// The taps of the shift register: bits 15, 12, 11 and 10.
+const TAPS: u16 = 0x9C00;
+
+// The bit that is shifted in: 1 if an even number of taps is set.
 fn parity(level: u16) -> u16
     ensures { λ r. ⌜ r ≡ parityOf level ⌝ }
 {
-    (level / 0x8000 + level / 0x1000 + level / 0x800 + level / 0x400 + 1) % 2
+    ((u16::count_ones(level & TAPS) + 1) % 2) as u16
 }
 
 // The shift register after one clock.
