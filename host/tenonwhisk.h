@@ -41,7 +41,7 @@
 extern "C" {
 #endif
 
-#define TENONWHISK_VERSION "0.3.0"
+#define TENONWHISK_VERSION "0.3.1"
 
 /* The length of a state. */
 #define TENONWHISK_STATE_BYTES 2493

@@ -1,5 +1,5 @@
 /* test [IMAGES]: tests through the C interface. IMAGES damaged states are tried, 20,000 if it is not given, and a
- * hundredth as many of the large sound RAM. */
+ * hundredth as many of the large sound RAM. About as many noise levels are tried, all of them if it is not given. */
 #include "check.h"
 #include "lent.h"
 #include "scenes.h"
@@ -374,6 +374,32 @@ static void test_tick_number(void)
     core_free(&core);
 }
 
+/* ---- noise */
+
+/* "2·level modulo 10000h plus (bits 15, 12, 11, 10 xored, inverted)" */
+static uint16_t shifted(uint32_t level)
+{
+    uint32_t xored = (level >> 15 ^ level >> 12 ^ level >> 11 ^ level >> 10) & 1;
+    return (uint16_t)(2 * level + (1 - xored));
+}
+
+/* The next level of about so many levels, evenly spaced, each in a state whose timer falls below zero. */
+static void test_noise(unsigned long levels)
+{
+    struct core core;
+    must_make(&core, SMALL);
+    uint8_t *level = core.state + 2464, *timer = core.state + 2466;
+    for (unsigned long before = 0; before <= UINT16_MAX; before += 0x10000 / (levels + 1) | 1) {
+        level[0] = (uint8_t)before;
+        level[1] = (uint8_t)(before >> 8);
+        memset(timer, 0, 4);
+        core_tick(&core, 0, 0);
+        uint16_t after = (uint16_t)(level[0] + 0x100 * level[1]);
+        check(after == shifted((uint32_t)before), "noise %04lXh goes to %04Xh", before, after);
+    }
+    core_free(&core);
+}
+
 /* ---- runs */
 
 struct played {
@@ -638,6 +664,7 @@ int main(int argc, char **argv)
     test_damaged_states(LARGE, images / 100);
     test_seen();
     test_tick_number();
+    test_noise(argc > 1 ? images : UINT16_MAX);
     test_runs();
     test_side_by_side();
     test_restored();
