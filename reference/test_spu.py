@@ -65,7 +65,7 @@ class Edges(unittest.TestCase):
         self.assertEqual([next_noise(x) for x in (0, 0x7FF, 0xFFE)], [1, 0xFFE, 0x1FFD])
 
     def test_noise_counted(self):
-        """M-102: with the ones under 9C00h counted, every level goes where 01's four bits xored send it."""
+        """M-102: a count of the ones under 9C00h gives the same next level as 01's four bits xored, for every level."""
         for level in range(0x10000):
             even = bin(level & 0x9C00).count("1") % 2 == 0
             self.assertEqual(next_noise(level), 2 * level % 0x10000 + even)

@@ -16,14 +16,16 @@ struct scene {
     uint16_t pitch, pitch_step; /* of voice n: pitch + n * pitch_step */
     bool reverb;
     bool idle;
+    bool noise; /* which every voice plays, and which moves in every tick */
 };
 
 static const struct scene scenes[] = {
-    {"main", 0x400, 368, true, false}, /* pitches from 400h to 2510h */
-    {"pitch-1000h", 0x1000, 0, true, false},
-    {"pitch-3FFFh", 0x3FFF, 0, true, false},
-    {"no-reverb", 0x400, 368, false, false},
-    {"idle", 0x400, 368, true, true},
+    {"main", 0x400, 368, true, false, false}, /* pitches from 400h to 2510h */
+    {"pitch-1000h", 0x1000, 0, true, false, false},
+    {"pitch-3FFFh", 0x3FFF, 0, true, false, false},
+    {"no-reverb", 0x400, 368, false, false, false},
+    {"noise", 0x400, 368, true, false, true},
+    {"idle", 0x400, 368, true, true, false},
 };
 
 /* 1C0h..1FEh, as the public page lists them for a hall. */
@@ -79,7 +81,7 @@ static void set_reverb(struct core *core, bool on)
 static void compose(struct core *core, const struct scene *scene)
 {
     fill(core);
-    set(core, 0x1AA, scene->reverb ? 0xC085 : 0xC001);
+    set(core, 0x1AA, (scene->reverb ? 0xC085 : 0xC001) | (scene->noise ? 0x3C00 : 0));
     set(core, 0x180, 0x3FFF);
     set(core, 0x182, 0x3FFF);
     set(core, 0x1B0, 0x4000);
@@ -87,6 +89,8 @@ static void compose(struct core *core, const struct scene *scene)
     set_reverb(core, scene->reverb);
     for (uint32_t n = 0; n < 24; n++)
         set_voice(core, scene, n);
+    set(core, 0x194, scene->noise ? 0xFFFF : 0);
+    set(core, 0x196, scene->noise ? 0x00FF : 0);
     set(core, 0x188, scene->idle ? 0 : 0xFFFF);
     set(core, 0x18A, scene->idle ? 0 : 0x00FF);
 }
@@ -131,7 +135,7 @@ int main(int argc, char **argv)
     uint32_t ticks = scene ? (uint32_t)strtoul(argv[4], NULL, 0) : 0;
     struct core core;
     if (ticks == 0 || ticks > MOST_TICKS || !core_make(&core, (uint32_t)strtoul(argv[2], NULL, 0))) {
-        fputs("usage: scenes main|pitch-1000h|pitch-3FFFh|no-reverb|idle 65536|524288 RUNS TICKS\n", stderr);
+        fputs("usage: scenes main|pitch-1000h|pitch-3FFFh|no-reverb|noise|idle 65536|524288 RUNS TICKS\n", stderr);
         return EXIT_FAILURE;
     }
     compose(&core, scene);

@@ -17,7 +17,7 @@ use Rattle.noise.specs.declared.Noise.{Noise}
 
 -- ---- the shift register
 
--- 16 bits have at most 16 ones under any mask
+-- a count and a small n fit 32 bits together: 16 bits have at most 16 ones under any mask
 pub count-fits : (level mask n : ℕ) → level < 0x10000 → n < 0x10000 → ones (bitAnd level mask) + n < 0x100000000
 count-fits level mask n h k = let m = ones-le 16 (bitAnd level mask) (lt-of-le-of-lt (and-le-l level mask) h) in omega arith
 

@@ -10,7 +10,7 @@ use lib.Count.{ones, ones-step}
 use lib.Dec.{eqb, lit<}
 use lib.Pow.{shr-shr}
 use Rattle.fixed.specs.Bits.{field, bit}
-use Rattle.noise.specs.Noise.{xor, xoredOf, taps, tapsSet, parityOf}
+use Rattle.noise.specs.Noise.{xor, xoredOf, taps, tapCountOf, parityOf}
 
 -- ---- the count of ones under any mask
 
@@ -51,19 +51,19 @@ ones-under n mask x h =
 
 -- ---- under the taps
 
-taps-sum : (level : ℕ) → tapsSet level ≡ field 15 1 level + field 12 1 level + field 11 1 level + field 10 1 level
-unfolding tapsSet
+taps-sum : (level : ℕ) → tapCountOf level ≡ field 15 1 level + field 12 1 level + field 11 1 level + field 10 1 level
+unfolding tapCountOf
 taps-sum level = ones-under 16 taps level (lit< tt) ∙ omega arith
 
 xor-sum : (a b c d : ℕ) → (a + b + c + d) % 2 ≡ xor (xor (xor a b) c) d
 xor-sum a b c d = omega arith
 
-count-xored : (level : ℕ) → tapsSet level % 2 ≡ xoredOf level
+count-xored : (level : ℕ) → tapCountOf level % 2 ≡ xoredOf level
 unfolding xoredOf
 count-xored level = ap (λ (n : ℕ). n % 2) (taps-sum level) ∙ xor-sum (field 15 1 level) (field 12 1 level) (field 11 1 level) (field 10 1 level)
 
--- "for every level that the count is odd exactly when 01's four bits xored give 1"; it holds for levels of more than 16 bits too
-pub odd-exactly : (level : ℕ) → (tapsSet level % 2 ≡ 1 → xoredOf level ≡ 1) × (xoredOf level ≡ 1 → tapsSet level % 2 ≡ 1)
+-- "for every level that the count is odd exactly when 01's four bits xored give 1"; it holds for every number
+pub odd-exactly : (level : ℕ) → (tapCountOf level % 2 ≡ 1 → xoredOf level ≡ 1) × (xoredOf level ≡ 1 → tapCountOf level % 2 ≡ 1)
 odd-exactly level = let e = count-xored level in (λ odd. sym e ∙ odd, λ one. e ∙ one)
 
 -- "no answer changes": the bit that is shifted in is still 01's "(bits 15, 12, 11, 10 xored, inverted)"

@@ -13,7 +13,7 @@ use Rattle.noise.specs.declared.Noise.{Noise}
 abbrev pub xor : ℕ → ℕ → ℕ
 xor a b = (a + b) % 2
 
--- "bits 15, 12, 11, 10 xored". The parity is counted below; `odd-exactly` in proofs/Taps says that both agree
+-- "bits 15, 12, 11, 10 xored". The parity is counted below; `odd-exactly` in proofs/Taps says that the two agree
 unfoldable pub xoredOf : ℕ → ℕ
 xoredOf level = xor (xor (xor (field 15 1 level) (field 12 1 level)) (field 11 1 level)) (field 10 1 level)
 
@@ -22,12 +22,12 @@ abbrev pub taps : ℕ
 taps = 0x9C00
 
 -- "a count of ones under a mask": how many taps are set
-unfoldable pub tapsSet : ℕ → ℕ
-tapsSet level = ones (bitAnd level taps)
+unfoldable pub tapCountOf : ℕ → ℕ
+tapCountOf level = ones (bitAnd level taps)
 
 -- "inverted": 1 if that count is even, 0 if it is odd
 unfoldable pub parityOf : ℕ → ℕ
-parityOf level = 1 - tapsSet level % 2
+parityOf level = 1 - tapCountOf level % 2
 
 -- "level = 2·level modulo 10000h plus (..)"
 unfoldable pub shiftedOf : ℕ → ℕ
