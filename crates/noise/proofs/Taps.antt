@@ -69,4 +69,4 @@ odd-exactly level = let e = count-xored level in (λ odd. sym e ∙ odd, λ one.
 -- "no answer changes": the bit that is shifted in is still 01's "(bits 15, 12, 11, 10 xored, inverted)"
 pub parity-xored : (level : ℕ) → parityOf level ≡ 1 - xoredOf level
 unfolding parityOf
-parity-xored level = ap (λ (n : ℕ). 1 - n) (count-xored level)
+parity-xored level = let e = count-xored level in omega arith
