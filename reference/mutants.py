@@ -392,6 +392,10 @@ for bit in (15, 12, 11, 10):
           " ^ ".join(f"level >> {other}" for other in (15, 12, 11, 10) if other != bit) + " ^ 1")
 wrong("noise_bit_14", "Bit 14 is in the noise's parity in place of bit 15.",
       "level >> 15 ^ level >> 12", "level >> 14 ^ level >> 12")
+wrong("noise_bit_14_for_12", "Bit 14 is in the noise's parity in place of bit 12.",
+      "level >> 15 ^ level >> 12", "level >> 15 ^ level >> 14")
+wrong("noise_all_bits", "Every bit of the level is in the noise's parity.",
+      "(level >> 15 ^ level >> 12 ^ level >> 11 ^ level >> 10 ^ 1) & 1", '(bin(level).count("1") + 1) & 1')
 wrong("noise_not_inverted", "The noise's parity is not inverted.", "level >> 10 ^ 1) & 1", "level >> 10) & 1")
 wrong("noise_parity_after", "The parity is of the level after doubling.",
       "    bit = (level >> 15", "    level *= 2\n    bit = (level >> 15",
