@@ -14,7 +14,7 @@ use Rattle.envelope.specs.declared.Phase.{Phase}
 use Rattle.envelope.specs.declared.Phase.the-variants.{Attack, Decay, Sustain}
 use Rattle.envelope.specs.declared.Envelope.{Envelope}
 use Rattle.envelope.specs.Adsr.{rateOf, sustainLevel, cyclesOf, stepOf, clamped, waitOf, enteredOf, phaseAfter, movedOf, tickedOf}
-use Rattle.noise.specs.Noise.{tapCountOf, parityOf, shiftedOf}
+use Rattle.noise.specs.Noise.{parityOf, shiftedOf}
 use Rattle.pitch.specs.Pitch.{limited, modulatedOf, stepOf as pitchStep}
 
 -- what an edge speaks of: a number, or an envelope's levels, one a tick, and its phase after them
@@ -70,5 +70,5 @@ edges =
 
 -- all of them hold
 pub edges-hold : map (λ (e : Edge). e .is) edges ≡ map (λ (e : Edge). e .shall) edges
-unfolding edges numbers header run levelsOf after pitchStep limited modulatedOf signed moduloOf bitsOf productOf volumeOf saturated predictedOf sampleOf rateOf sustainLevel cyclesOf stepOf clamped waitOf enteredOf phaseAfter movedOf tickedOf parityOf tapCountOf shiftedOf onesIn ones
+unfolding edges numbers header run levelsOf after pitchStep limited modulatedOf signed moduloOf bitsOf productOf volumeOf saturated predictedOf sampleOf rateOf sustainLevel cyclesOf stepOf clamped waitOf enteredOf phaseAfter movedOf tickedOf parityOf shiftedOf onesIn ones
 edges-hold = refl

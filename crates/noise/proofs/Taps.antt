@@ -52,7 +52,6 @@ ones-under n mask x h =
 -- ---- under the taps
 
 taps-sum : (level : ℕ) → tapCountOf level ≡ field 15 1 level + field 12 1 level + field 11 1 level + field 10 1 level
-unfolding tapCountOf
 taps-sum level = ones-under 16 taps level (lit< tt) ∙ omega arith
 
 xor-sum : (a b c d : ℕ) → (a + b + c + d) % 2 ≡ xor (xor (xor a b) c) d

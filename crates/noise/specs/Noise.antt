@@ -22,7 +22,7 @@ abbrev pub taps : ℕ
 taps = 0x9C00
 
 -- "a count of ones under a mask": how many taps are set
-unfoldable pub tapCountOf : ℕ → ℕ
+abbrev pub tapCountOf : ℕ → ℕ
 tapCountOf level = ones (bitAnd level taps)
 
 -- "inverted": 1 if that count is even, 0 if it is odd

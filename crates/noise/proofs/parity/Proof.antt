@@ -1,7 +1,7 @@
 use native.Mathlib.Omega.{arith}
 use lib.Dec.{lit<}
 use borrow.Author.Needs.{needs}
-use Rattle.noise.specs.Noise.{parityOf, tapCountOf}
+use Rattle.noise.specs.Noise.{parityOf}
 use Rattle.noise.proofs.Laws.{count-fits}
 use Rattle.noise.proofs.parity.Statement.{statement}
 use Rattle.noise.proofs.parity.Tie as tie
@@ -13,7 +13,7 @@ cast-result : tie.Need-cast-result
 cast-result c = search needs
 
 returns : tie.Need-returns
-unfolding parityOf tapCountOf
+unfolding parityOf
 returns c = omega arith
 
 pub parity-spec : {M : Type 1} → statement M
