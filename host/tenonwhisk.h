@@ -41,7 +41,7 @@
 extern "C" {
 #endif
 
-#define TENONWHISK_VERSION "0.3.1"
+#define TENONWHISK_VERSION "0.4.0"
 
 /* The length of a state. */
 #define TENONWHISK_STATE_BYTES 2493
@@ -52,7 +52,8 @@ extern "C" {
 /* ---- numbers */
 
 /* What a call returns: TENONWHISK_DONE, or why it was refused. Where several reasons apply, it returns the lowest
- * number. Bytes that are not a state do not name an L, so for them it returns TENONWHISK_STATE. */
+ * number, except that TENONWHISK_UNDOCUMENTED goes before TENONWHISK_NOT_CARRIED. Bytes that are not a state do not name
+ * an L, so for them it returns TENONWHISK_STATE. */
 enum tenonwhisk_number {
     TENONWHISK_DONE = 0,
     TENONWHISK_MEMORY = 1,      /* RAM or marks do not have the lengths that the state's L asks for; or no such L */
@@ -65,6 +66,7 @@ enum tenonwhisk_number {
     TENONWHISK_ADDRESS = 8,     /* the block address is not a multiple of 8, or is beyond L-16 */
     TENONWHISK_BANK = 9,        /* a bank is damaged, or the entries handed in would make a damaged one */
     TENONWHISK_NO_ENTRY = 10,   /* no bank that was handed in has an entry with this number */
+    TENONWHISK_UNDOCUMENTED = 11, /* a write sets a bit that nobody has documented */
     TENONWHISK_ROOM = 24,       /* the buffer is shorter than the bank to be written */
     TENONWHISK_BUFFERS = 25     /* the buffers of a run do not hold whole pairs, or have different lengths */
 };
@@ -97,6 +99,9 @@ static inline const char *tenonwhisk_words(uint8_t number)
         return "a sound bank is damaged, or the entries handed in would make a damaged one";
     case TENONWHISK_NO_ENTRY:
         return "there is no entry with this number";
+    case TENONWHISK_UNDOCUMENTED:
+        return "the value sets a bit that nobody has documented (bit 13 of a voice's +Ah; bits 15-8 of 18Ah, 18Eh, 192h, "
+               "196h, 19Ah; bits 15-4 and 0 of 1ACh)";
     case TENONWHISK_ROOM:
         return "the buffer is shorter than the sound bank to be written";
     case TENONWHISK_BUFFERS:
@@ -128,7 +133,11 @@ struct tenonwhisk_overview tenonwhisk_status(const uint8_t *state, size_t state_
 
 /* ---- registers, by their offset from 1F801C00h */
 
-/* Writes a register. Returns 0, 2, 3, 4 or 5. */
+/* Writes a register. Returns 0, 2, 3, 4, 11 or 5, the first of these that applies after 0.
+ *
+ * 11 is for bits that the public register description calls unused or unknown, where consoles need not agree: bit 13 of
+ * a voice's +Ah (bit 29 of ADSR), bits 15-8 of 18Ah, 18Eh, 192h, 196h and 19Ah (bits 31-24 of KON, KOFF, PMON, NON and
+ * EON), and bits 15-4 and 0 of 1ACh. Write them as 0. A state that already holds such a bit is accepted. */
 uint8_t tenonwhisk_write(uint8_t *state, size_t state_len, uint32_t offset, uint16_t value);
 
 struct tenonwhisk_reading {

@@ -119,7 +119,7 @@ class Session:
         self.write(0x10 * n + 4, self.pick(0x1000, 0x1000, 0x800, 0x1800, 0x2000, 0x3FFF, 0x4001, 0xFFFF, 0x400, self.below(0x4000)))
         self.write(0x10 * n + 6, self.pick(*self.starts) if self.starts else self.unit())
         self.write(0x10 * n + 8, self.pick(0x000F, 0x00FF, 0x80FF, 0x0003, 0x8003, 0x1F0A, self.below(0x10000), self.below(0x8000)))
-        self.write(0x10 * n + 0xA, self.pick(0x0000, 0x5FC0, 0x1FC0, 0xC005, 0x8000, 0x0020, 0x4005, self.below(0x10000)))
+        self.write(0x10 * n + 0xA, self.pick(0x0000, 0x5FC0, 0x1FC0, 0xC005, 0x8000, 0x0020, 0x4005, self.below(0x10000) & ~0x2000))
         if self.chance(0.1):
             self.write(0x10 * n + 0xE, self.pick(*self.starts) if self.starts else self.unit())
         self.key(0x188, 1 << n)
@@ -207,6 +207,8 @@ class Session:
         elif self.chance(0.5):
             self.write(self.pick(self.below(0x220), 2 * self.below(0x100), 0x1A8, 0x1AC, 0x19C), self.pick(*EDGE_VALUES, self.below(0x10000)))
         elif self.chance(0.5):
+            self.junk()
+        elif self.chance(0.5):
             self.say("fill %X %d %x" % (self.below(self.L), self.pick(0, 1, 16, 100, 3000), self.below(256)))
         elif self.chance(0.3):
             self.say("reset")
@@ -214,6 +216,12 @@ class Session:
             self.set_control()
         else:
             self.say(self.pick("# a comment", "", "  \t", "#", "s %x" % self.below(0x10000), "s " + "0 " * self.pick(31, 33, 40, 100)))
+
+    def junk(self):
+        """A register with undocumented bits, in a value of mostly documented ones."""
+        offset, mask = self.pick((0x10 * self.below(24) + 0xA, 0x2000), (0x18A + 4 * self.below(6), 0xFF00), (0x1AC, 0xFFF1))
+        value = self.pick(self.below(0x10000), 4) & ~mask
+        self.write(offset, value | self.pick(0, mask, 1 << self.below(16), 1 << self.below(16), self.below(0x10000)))
 
     def compose(self):
         self.volumes()

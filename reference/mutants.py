@@ -40,6 +40,12 @@ def wrong(name, rule, *texts, file="spu", reason=None):
 # Texts that several wrong references change.
 KEPT = "old, self.reg[offset] = self.reg[offset], value"
 READ_BACK = "return 0, self.reg[offset]\n"
+REFUSED_WRITE = "        if number:\n            return number\n        old, self.reg[offset]"
+READ_ONLY = "        if offset in (0x19C, 0x19E, 0x1AE, 0x1B8, 0x1BA):\n"
+REFUSED_11 = ('        if value & self.undocumented(offset):       # "tested after 4 and before 5"\n'
+              "            return 11\n")
+UPPER_ADSR = "if offset < 0x180 and offset % 16 == 0xA:\n            return 1 <<"
+UPPER_FLAGS = "if offset in (0x18A, 0x18E, 0x192, 0x196, 0x19A, 0x19E):"
 RESET = "        if number == 0:\n            self.fresh()\n"
 TICK_BEGINS = "        self.begin()\n        before, reg ="
 CALL_BEGINS = "        self.at_first = (self.latch, self.doubt)"
@@ -75,7 +81,7 @@ wrong("unit_in_64k", "A unit's address is taken modulo 10000h, whatever L is.",
 wrong("unit_clamped", "A unit past the end of sound RAM is the last one.",
       "return unit * 8 % L", "return min(unit * 8, L - 8)")
 
-# ---- Numbers 3, 4 and 5
+# ---- Numbers 3, 4, 11 and 5
 
 wrong("odd_offsets_listed", "An odd offset means the register that it lies in.",
       "def write_refusal(self, offset, value):\n        number = self.refusal()",
@@ -148,25 +154,86 @@ wrong("refused_read_value", "A refused read of 1A8h returns FFFFh beside its num
       "return 5, 0", "return 5, 0xFFFF")
 wrong("data_port_read_3", "Reading 1A8h gives 3.", "return 5, 0", "return 3, 0")
 wrong("transfer_type_any", "1ACh takes every value.", "return value >> 1 & 7 != 2", "return False")
-wrong("transfer_type_exactly_4", "1ACh takes 4 alone.", "return value >> 1 & 7 != 2", "return value != 4")
-wrong("transfer_type_low_4_bits", "1ACh needs its bits 3-0 to be 4.",
-      "return value >> 1 & 7 != 2", "return value & 15 != 4")
 wrong("transfer_type_bits_2_1", "1ACh needs its bits 2-1 to be 2, whatever bit 3 is.",
       "return value >> 1 & 7 != 2", "return value >> 1 & 3 != 2")
 wrong("refused_write_kept", "A write refused by 5 still changes what reads back.",
-      "        if number:\n            return number\n        old, self.reg[offset]",
+      REFUSED_WRITE,
       ("        if number:\n"
        "            if number == 5:\n"
        "                self.reg[offset] = value\n"
        "            return number\n"
        "        old, self.reg[offset]"))
 wrong("refused_volume_cut", "A volume with bit 15 set is taken without it.",
-      "        if number:\n            return number\n        old, self.reg[offset]",
+      REFUSED_WRITE,
       ("        if number:\n"
        "            if number == 5:\n"
        "                self.reg[offset] = value & 0x7FFF\n"
        "            return number\n"
        "        old, self.reg[offset]"))
+
+wrong("undocumented_taken", "No bit is refused for being undocumented.", REFUSED_11, "")
+wrong("undocumented_before_3", "11 goes before 3, at the odd offsets of a register too.",
+      "        if not self.listed(offset):\n            return 3\n        if offset in (0x19C",
+      ("        if value & self.undocumented(offset & ~1):\n"
+       "            return 11\n"
+       "        if not self.listed(offset):\n"
+       "            return 3\n"
+       "        if offset in (0x19C"))
+wrong("undocumented_before_4", "11 goes before 4.",
+      REFUSED_11, "", READ_ONLY, REFUSED_11 + READ_ONLY)
+wrong("undocumented_after_5", "5 goes before 11.",
+      "            return 11\n", "            return 5 if self.not_carried(offset, value) else 11\n")
+wrong("undocumented_is_5", "An undocumented bit gives 5.", "            return 11\n", "            return 5\n")
+wrong("undocumented_read", "A register with undocumented bits cannot be read.",
+      "        if offset == 0x1A8:\n", "        if offset == 0x1A8 or self.undocumented(offset) and offset != 0x19E:\n")
+wrong("undocumented_kept", "A write refused by 11 still changes what reads back.",
+      REFUSED_WRITE,
+      ("        if number:\n"
+       "            if number == 11:\n"
+       "                self.reg[offset] = value\n"
+       "            return number\n"
+       "        old, self.reg[offset]"))
+wrong("undocumented_cut", "A write with undocumented bits is taken without them.",
+      "        number = self.write_refusal(offset, value)\n",
+      "        value &= ~self.undocumented(offset)\n        number = self.write_refusal(offset, value)\n")
+wrong("undocumented_cut_with_11", "A write with undocumented bits is taken without them, and gives 11.",
+      REFUSED_WRITE,
+      ("        if number:\n"
+       "            if number == 11:\n"
+       "                self.reg[offset] = value & ~self.undocumented(offset)\n"
+       "            return number\n"
+       "        old, self.reg[offset]"))
+wrong("undocumented_key_acts", "A key write refused by 11 acts on its voices.",
+      REFUSED_WRITE,
+      ("        if number:\n"
+       "            if number == 11 and offset in (0x18A, 0x18E):\n"
+       "                self.key_write(offset, value)\n"
+       "            return number\n"
+       "        old, self.reg[offset]"))
+wrong("undocumented_pmon_0", "PMON bit 0 is undocumented.",
+      "return 0xFFF1 if offset == 0x1AC else 0", "return 0xFFF1 if offset == 0x1AC else offset == 0x190")
+wrong("undocumented_adsr_lower", "Bit 13 of +8 is undocumented too.",
+      UPPER_ADSR, "if offset < 0x180 and offset % 16 in (8, 0xA):\n            return 1 <<")
+for n in range(24):
+    wrong(f"undocumented_not_voice_{n}", f"Voice {n} may have bit 13 of +Ah set.",
+          UPPER_ADSR, f"if offset < 0x180 and offset % 16 == 0xA and offset // 16 != {n}:\n            return 1 <<")
+for k in range(16):
+    if k != 13:
+        wrong(f"undocumented_adsr_{k}", f"Bit {k} of +Ah is refused and bit 13 is not.",
+              "return 1 << (29 - 16) ", f"return 1 << {k} ")
+        wrong(f"undocumented_adsr_13_and_{k}", f"Bit {k} of +Ah is refused too.",
+              "return 1 << (29 - 16) ", f"return 1 << 13 | 1 << {k} ")
+for register, name in ((0x188, "KON"), (0x18C, "KOFF"), (0x190, "PMON"), (0x194, "NON"), (0x198, "EON")):
+    wrong("undocumented_not_" + name.lower(), f"{register + 2:X}h, of {name}, may have any bit set.",
+          UPPER_FLAGS, UPPER_FLAGS.replace(f"0x{register + 2:X}, ", ""))
+    wrong("undocumented_lower_" + name.lower(), f"Bits 15-8 of {register:X}h, the lower half of {name}, are refused.",
+          UPPER_FLAGS, UPPER_FLAGS.replace("(", f"(0x{register:X}, "))
+for k in range(16):
+    for mask, name, where in ((0xFF00, "flags", "the upper flag registers"), (0xFFF1, "type", "1ACh")):
+        taken = mask >> k & 1
+        wrong(f"undocumented_{name}_{'not' if taken else 'and'}_{k}",
+              f"Bit {k} of {where} {'does not give' if taken else 'gives'} 11.",
+              f"return 0x{mask:X}", f"return 0x{mask ^ 1 << k:X}")
 
 # ---- Ranges that a session comes up to
 
@@ -228,22 +295,12 @@ wrong("key_on_lost_by_tick", "A tick clears KON and KOFF.",
       ("        self.begin()\n"
        "        self.reg[0x188] = self.reg[0x18A] = self.reg[0x18C] = self.reg[0x18E] = 0\n"
        "        before, reg ="))
-wrong("upper_flags_8_bits", "The upper halves of PMON, NON and EON have 8 bits.",
-      KEPT, "old, self.reg[offset] = self.reg[offset], value & 0xFF if offset in (0x192, 0x196, 0x19A) else value")
-wrong("upper_keys_8_bits", "The upper halves of KON and KOFF have 8 bits.",
-      KEPT, "old, self.reg[offset] = self.reg[offset], value & 0xFF if offset in (0x18A, 0x18E) else value")
 wrong("pmon_without_bit_0", "PMON bit 0 is not kept.",
       KEPT, "old, self.reg[offset] = self.reg[offset], value & 0xFFFE if offset == 0x190 else value")
 wrong("pitch_cut_when_written", "A pitch above 4000h is kept as 4000h.",
       KEPT,
       ("old, self.reg[offset] = self.reg[offset], min(value, 0x4000) if offset < 0x180 and offset % 16 == 4 "
        "else value"))
-wrong("adsr_bit_13_lost", "Bit 13 of +Ah is not kept.",
-      KEPT,
-      ("old, self.reg[offset] = self.reg[offset], value & 0xDFFF if offset < 0x180 and offset % 16 == 10 else "
-       "value"))
-wrong("transfer_type_reads_4", "1ACh reads as 4.",
-      READ_BACK, "return 0, 4 if offset == 0x1AC else self.reg[offset]\n")
 wrong("transfer_address_reads_now", "1A6h moves with transfers.",
       READ_BACK, "return 0, self.transfer_address // 8 if offset == 0x1A6 else self.reg[offset]\n")
 wrong("reverb_base_reads_place", "1A2h reads the place of the reverb.",
@@ -772,11 +829,6 @@ wrong("key_off_new_bits_only", "Key off acts on bits that were clear before.",
       "            self.key_write(offset, value)",
       "            self.key_write(offset, value & ~old if offset >= 0x18C else value)")
 wrong("key_upper_half_lost", "18Ah and 18Eh act on voices 0 to 7.", "first = 16 if offset & 2 else 0", "first = 0")
-wrong("key_bits_15_8", "Bits 15-8 of 18Ah and 18Eh act on voices 0 to 7.",
-      "self.key_write(offset, value)",
-      ("self.key_write(offset, value)\n"
-       "            if offset & 2:\n"
-       "                self.key_write(offset - 2, value >> 8)"))
 wrong("key_on_clear_bits", "Key on sends the voices whose bits are clear to Release.",
       "            if value >> (n - first) & 1:\n",
       ("            if offset < 0x18C and not value >> (n - first) & 1:\n"
@@ -908,7 +960,6 @@ wrong("sustain_direction_inverted", "Sustain rises with bit 14 set.",
       "falling, n = high >> 14 & 1, high >> 6 & 3", "falling, n = 1 - (high >> 14 & 1), high >> 6 & 3")
 wrong("sustain_bit_13", "Sustain falls with bit 13 set.",
       "falling, n = high >> 14 & 1, high >> 6 & 3", "falling, n = high >> 13 & 1, high >> 6 & 3")
-wrong("sustain_shift_6_bits", "The sustain shift has 6 bits.", "high >> 8 & 31, -8 + n", "high >> 8 & 63, -8 + n")
 wrong("sustain_fall_minus_7", "A falling sustain steps by -7 + n.", "-8 + n if falling", "-7 + n if falling")
 wrong("sustain_fall_minus_n", "A falling sustain steps by -8 - n.", "-8 + n if falling", "-8 - n if falling")
 wrong("sustain_fall_as_rise", "A falling sustain steps by -(7 - n).", "-8 + n if falling", "n - 7 if falling")
@@ -2065,6 +2116,12 @@ wrong("range_address_any", "A voice address may lie in the middle of a unit.",
 wrong("range_reverb_any", "A reverb place may lie below its base.",
       "unit_address(self.reg[0x1A2], L) <= self.reverb_place <= L - 2", "0 <= self.reverb_place <= L - 2",
       reason=PROGRAM_STATE)
+wrong("sustain_shift_6_bits", "The sustain shift has 6 bits.",
+      "high >> 8 & 31, -8 + n", "high >> 8 & 63, -8 + n",
+      reason="no write sets bit 13 of +Ah")
+wrong("transfer_type_reads_4", "1ACh reads as 4.",
+      READ_BACK, "return 0, 4 if offset == 0x1AC else self.reg[offset]\n",
+      reason="no write to 1ACh but that of 4 is accepted")
 wrong("make_other_l", "Making a state for another L gives the fresh state for 524,288.",
       "else (1, cls(65536))", "else (1, cls(524288))",
       reason="replay makes states for the two lengths alone")

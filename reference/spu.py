@@ -1,8 +1,9 @@
 """The sound chip, written rule by rule from the papers, in unbounded integers.
 
 ">>" and "//" round down.  An address counts bytes; a unit is 8 bytes.  Sentences in
-quotation marks are those of the scope paper that the code under them carries; where a
-place could be read otherwise, docs/DECISIONS.md says how it is read.
+quotation marks are those of the scope paper that the code under them carries, or of the
+change requests where they are named; where a place could be read otherwise,
+docs/DECISIONS.md says how it is read.
 """
 
 SIZES = (65536, 524288)
@@ -360,6 +361,16 @@ class Spu(SoundRam):
         return offset in range(0, 0x200, 2) and offset not in (0x1A0, 0x1BC, 0x1BE)
 
     @staticmethod
+    def undocumented(offset):
+        """The bits of a register that give number 11, as a mask: document 02's "1ACh bits 15-4 and
+        0, bit 29 of ADSR, and bits 15-8 of the upper flag registers" """
+        if offset < 0x180 and offset % 16 == 0xA:
+            return 1 << (29 - 16)                   # +Ah has bits 31-16 of ADSR
+        if offset in (0x18A, 0x18E, 0x192, 0x196, 0x19A, 0x19E):
+            return 0xFF00
+        return 0xFFF1 if offset == 0x1AC else 0
+
+    @staticmethod
     def not_carried(offset, value):
         """Number 5 of a write to a listed offset."""
         place = offset % 16 if offset < 0x180 else None     # in a voice
@@ -377,6 +388,8 @@ class Spu(SoundRam):
             return 3
         if offset in (0x19C, 0x19E, 0x1AE, 0x1B8, 0x1BA):
             return 4
+        if value & self.undocumented(offset):       # "tested after 4 and before 5"
+            return 11
         return 5 if self.not_carried(offset, value) else 0
 
     def write(self, offset, value):

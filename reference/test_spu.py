@@ -188,8 +188,32 @@ class Refusals(unittest.TestCase):
             self.assertEqual((spu.write(offset, 0x8000), spu.write(offset, 0x7FFF)), (5, 0))
         for offset in (0x004, 0x184, 0x186, 0x1B0, 0x1FE):
             self.assertEqual((spu.write(offset, 0x8000), spu.read(offset)), (0, (0, 0x8000)))
-        for value in range(32):
-            self.assertEqual(spu.write(0x1AC, value), 0 if value & 14 == 4 else 5)
+        for value in range(16):
+            self.assertEqual(spu.write(0x1AC, value), 11 if value & 1 else 0 if value == 4 else 5)
+
+    def test_undocumented_bits(self):
+        spu = Spu(65536)
+        refused = {0x1AC: [0, *range(4, 16)]}
+        refused |= {offset: range(8, 16) for offset in (0x18A, 0x18E, 0x192, 0x196, 0x19A)}
+        refused |= {0x10 * n + 0xA: [13] for n in range(24)}
+        for offset in (*refused, 0x19E, 0x188, 0x198, 0x008, 0x190):
+            for k in range(16):
+                documented = 4 if offset == 0x19E else 5 if offset == 0x1AC and k != 2 else 0
+                expected = 11 if k in refused.get(offset, ()) else documented
+                before = spu.read(offset)[1]
+                self.assertEqual(spu.write(offset, 1 << k), expected, (hex(offset), k))
+                self.assertEqual(spu.read(offset), (0, before if expected else 1 << k), (hex(offset), k))
+        self.assertEqual([spu.write(0x1AC, value) for value in (0x0010, 0x0006, 0x0014, 0xFFFF)], [11, 5, 11, 11])
+        self.assertEqual([spu.write(offset, 0xFFFF) for offset in (0x00B, 0x19E, 0x19B, 0x1AD)], [3, 4, 3, 3])
+        spu.capture_place = 1
+        self.assertEqual(spu.write(0x1AC, 0xFFFF), 2)
+
+    def test_states_with_undocumented_bits(self):
+        spu = loud()
+        for offset, value in ((0x00A, 0x2000), (0x18A, 0xFF00), (0x19A, 0xFF00), (0x1AC, 0xFFF1)):
+            spu.reg[offset] |= value
+            self.assertEqual((spu.refusal(), spu.read(offset)), (0, (0, spu.reg[offset])))
+        self.assertEqual(spu.tick(0, 0)[0], 0)
 
     def test_lengths_and_ranges(self):
         spu = Spu(65536)

@@ -237,6 +237,24 @@ static bool is_read_only(uint32_t offset)
     return offset == 0x19C || offset == 0x19E || offset == 0x1AE || offset == 0x1B8 || offset == 0x1BA;
 }
 
+static uint16_t undocumented_bits(uint32_t offset)
+{
+    if (offset < 0x180)
+        return offset % 16 == 0xA ? 1 << 13 : 0;
+    switch (offset) {
+    case 0x18A:
+    case 0x18E:
+    case 0x192:
+    case 0x196:
+    case 0x19A:
+        return 0xFF00;
+    case 0x1AC:
+        return 0xFFF1;
+    default:
+        return 0;
+    }
+}
+
 static bool is_limited_volume(uint32_t offset)
 {
     return offset == 0x180 || offset == 0x182 || (offset < 0x180 && offset % 16 <= 2);
@@ -257,6 +275,8 @@ static uint8_t number_of_write(const struct lent *lent)
         return 3;
     if (is_read_only(lent->offset))
         return 4;
+    if (lent->value & undocumented_bits(lent->offset))
+        return 11;
     return is_carried(lent->offset, lent->value) ? 0 : 5;
 }
 

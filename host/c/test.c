@@ -9,7 +9,7 @@
 #include <stdlib.h>
 #include <string.h>
 
-enum { PAIRS = 1000, IMAGES = 20000, MOST_STATE = 3000, MOST_REFUSALS = 4 };
+enum { PAIRS = 1000, IMAGES = 20000, MOST_STATE = 3000, MOST_REFUSALS = 5 };
 
 static void random_samples(uint64_t *seed, int16_t *samples, size_t count)
 {
@@ -87,7 +87,7 @@ static void test_registers(void)
 {
     struct lent lent;
     lent_make(&lent, SMALL);
-    const uint16_t values[] = {0, 4, 0x7FFF, 0x8000, 0xFFFF};
+    const uint16_t values[] = {0, 4, 6, 0x7FFF, 0x8000, 0xDFFF, 0xFFFF};
     for (lent.offset = 0; lent.offset < 0x240; lent.offset++)
         for (size_t k = 0; k < sizeof values / sizeof *values; k++) {
             lent.value = values[k];
@@ -97,6 +97,47 @@ static void test_registers(void)
     lent.offset = 0x10000; /* its low 16 bits are those of a register */
     expect(&lent, WRITE, 3);
     expect(&lent, READ, 3);
+    lent_free(&lent);
+}
+
+/* Each bit by itself, of the registers with undocumented bits and of those beside them. */
+static void test_bits(void)
+{
+    struct lent lent;
+    lent_make(&lent, SMALL);
+    for (lent.offset = 8; lent.offset < 0x1B0; lent.offset += 2) {
+        bool adsr = lent.offset < 0x180 && (lent.offset % 16 == 8 || lent.offset % 16 == 0xA);
+        bool flags = lent.offset >= 0x188 && lent.offset <= 0x19E;
+        for (unsigned k = 0; k < 16 && (adsr || flags || lent.offset == 0x1AC); k++) {
+            lent.value = (uint16_t)(1 << k);
+            expect(&lent, WRITE, expected_number(&calls[WRITE], &lent));
+            lent.value |= 4; /* with transfer type 2, where it is 1ACh */
+            expect(&lent, WRITE, expected_number(&calls[WRITE], &lent));
+        }
+    }
+    lent_free(&lent);
+}
+
+/* A number goes before those that apply too. */
+static void test_order(void)
+{
+    static const struct {
+        uint32_t offset;
+        uint16_t value;
+        uint8_t number;
+    } cases[] = {
+        {0x1AC, 0x0004, 0},  {0x1AC, 0x0006, 5},  {0x1AC, 0x0014, 11}, {0x1AC, 0x0010, 11}, {0x1AC, 0xFFFF, 11},
+        {0x19E, 0xFF00, 4},  {0x19B, 0xFF00, 3},  {0x1AD, 0xFFFF, 3},  {0x00B, 0x2000, 3},  {0x00A, 0x2000, 11},
+        {0x00A, 0xDFFF, 0},  {0x17A, 0xFFFF, 11}, {0x18A, 0x0100, 11}, {0x18E, 0x8000, 11}, {0x192, 0xFF00, 11},
+        {0x196, 0xFFFF, 11}, {0x19A, 0x0100, 11}, {0x19A, 0x00FF, 0},  {0x198, 0xFFFF, 0},  {0x190, 0x0001, 0},
+    };
+    struct lent lent;
+    lent_make(&lent, SMALL);
+    for (size_t k = 0; k < sizeof cases / sizeof *cases; k++) {
+        lent.offset = cases[k].offset;
+        lent.value = cases[k].value;
+        expect(&lent, WRITE, cases[k].number);
+    }
     lent_free(&lent);
 }
 
@@ -304,7 +345,7 @@ static void test_seen(void)
     static const uint8_t refusals[CALLS][MOST_REFUSALS] = {
         [RESET] = {2},
         [STATUS] = {2},
-        [WRITE] = {2, 3, 4, 5},
+        [WRITE] = {2, 3, 4, 5, 11},
         [READ] = {2, 3, 5},
         [TRANSFER_IN] = {1, 2, 6, 7},
         [TRANSFER_OUT] = {1, 2, 6, 7},
@@ -571,6 +612,43 @@ static void test_restored(void)
     core_free(&kept);
 }
 
+/* Sets bits of a register in the state's bytes, past the calls. */
+static void hold(struct core *core, uint32_t offset, uint16_t bits)
+{
+    enum { AT_REGISTERS = 8 };
+    uint16_t held = core_read(core, offset).value | bits;
+    core->state[AT_REGISTERS + offset] = (uint8_t)held;
+    core->state[AT_REGISTERS + offset + 1] = (uint8_t)(held >> 8);
+    struct tenonwhisk_reading reading = core_read(core, offset);
+    check(reading.number == 0 && reading.value == held, "%03Xh holds %04Xh", (unsigned)offset, held);
+}
+
+/* A state from elsewhere may hold undocumented bits. It is good, and no rule looks at them. */
+static void test_undocumented_held(void)
+{
+    static int16_t cd[2 * PAIRS], out[2 * PAIRS], again[2 * PAIRS];
+    struct core core, holding;
+    struct core *both[] = {&core, &holding};
+    for (int k = 0; k < 2; k++) {
+        must_make_composed(both[k], SMALL, 1);
+        for (uint32_t at = 0; at < 0x180; at += 0x10)
+            WRITE_ALL(both[k], {at + 10, 0x4840}); /* sustain falls, so that its shift is heard */
+    }
+    for (uint32_t at = 0; at < 0x180; at += 0x10)
+        hold(&holding, at + 10, 0x2000);
+    for (uint32_t offset = 0x18A; offset <= 0x19A; offset += 4)
+        hold(&holding, offset, 0xFF00);
+    hold(&holding, 0x1AC, 0xFFF1);
+    struct tenonwhisk_ran ran = core_run(&core, cd, out, PAIRS);
+    check(same_ran(ran, core_run(&holding, cd, again, PAIRS)), "undocumented bits that a state holds change no report");
+    check(sounds(out, 2 * PAIRS) && memcmp(out, again, sizeof out) == 0, "and no sound");
+    check(memcmp(core.ram, holding.ram, SMALL) == 0 && memcmp(core.marks, holding.marks, SMALL / 16) == 0,
+          "and nothing in RAM and marks");
+    check(core_read(&holding, 0x1AC).value == 0xFFF5 && core_read(&holding, 0x18A).value == 0xFFFF, "and stay");
+    core_free(&core);
+    core_free(&holding);
+}
+
 /* ---- the edges of document 01 that are run and compared */
 
 static void test_lowest_mix(void)
@@ -646,7 +724,7 @@ static void test_words(void)
     check(strcmp(tenonwhisk_words(TENONWHISK_DONE), "done") == 0, "0 is done");
     for (unsigned number = 0; number <= UINT8_MAX; number++) {
         const char *words = tenonwhisk_words((uint8_t)number);
-        bool given = number <= TENONWHISK_NO_ENTRY || number == TENONWHISK_ROOM || number == TENONWHISK_BUFFERS;
+        bool given = number <= TENONWHISK_UNDOCUMENTED || number == TENONWHISK_ROOM || number == TENONWHISK_BUFFERS;
         check((strcmp(words, none) != 0) == given, "words of %u", number);
         for (unsigned other = 0; given && other < number; other++)
             check(strcmp(words, tenonwhisk_words((uint8_t)other)) != 0, "%u and %u differ", number, other);
@@ -668,6 +746,8 @@ int main(int argc, char **argv)
     test_size(SMALL);
     test_size(LARGE);
     test_registers();
+    test_bits();
+    test_order();
     test_transfers();
     test_run_buffers();
     test_damaged_states(SMALL, images);
@@ -678,6 +758,7 @@ int main(int argc, char **argv)
     test_runs();
     test_side_by_side();
     test_restored();
+    test_undocumented_held();
     test_lowest_mix();
     test_33_halfwords();
     test_block_at_end();

@@ -1,6 +1,7 @@
 -- Which offsets there are, which can only be read, and which values cannot be written. Assumes nothing.
-use mathlib.Core.Bool.{Bool, _&&_, _||_, not}
+use mathlib.Core.Bool.{Bool, cond, _&&_, _||_, not}
 use Prim.Native.Nat.{ℕ, _%_}
+use lib.Bits.{bitAnd}
 use lib.Dec.{eqb, leb, ltb}
 use Rattle.fixed.specs.Bits.{bit, field}
 
@@ -19,6 +20,25 @@ listed offset =
 -- "write to 19Ch, 19Eh, 1AEh, 1B8h, 1BAh"
 unfoldable pub readOnly : ℕ → Bool
 readOnly offset = eqb offset 0x19C || (eqb offset 0x19E || (eqb offset 0x1AE || (eqb offset 0x1B8 || eqb offset 0x1BA)))
+
+-- Document 02, M-103: "bits that source document 000 calls unused .. 1ACh bits 15-4 and 0, bit 29 of ADSR, and bits 15-8 of the upper flag registers".
+
+-- "____upper 16bit (at 1F801C0Ah+N*10h)": bits 31-16 of ADSR
+abbrev pub isUpperAdsr : ℕ → Bool
+isUpperAdsr offset = isVoice offset && eqb (offset % 16) 0xA
+
+-- bits 31-16 of KON, KOFF, PMON, NON, EON and ENDX: 18Ah, 18Eh, 192h, 196h, 19Ah and 19Eh
+abbrev pub isUpperFlags : ℕ → Bool
+isUpperFlags offset = between 0x188 0x19E offset && eqb (offset % 4) 2
+
+-- The mask of these bits, by offset. 000 has, in this order, "29 Not used? (should be zero)", "24-31 Not used", and of 1ACh "15-4 Unknown/no effect? (should be
+-- zero)" and "0 Unknown/no effect? (should be zero)".
+unfoldable pub undocumentedBits : ℕ → ℕ
+undocumentedBits offset = cond (isUpperAdsr offset) 0x2000 (cond (isUpperFlags offset) 0xFF00 (cond (eqb offset 0x1AC) 0xFFF1 0))
+
+-- "a write with a nonzero bit there"
+unfoldable pub undocumented : ℕ → ℕ → Bool
+undocumented offset value = not (eqb (bitAnd value (undocumentedBits offset)) 0)
 
 -- "volume with bit 15 set; +Ch of a voice or 1A8h written; .. 1ACh with bits 3-1 other than 2". "Only main volume (180h, 182h) and voice volumes
 -- are limited by bit 15."

@@ -3,7 +3,7 @@ ghost use mathlib.Core.Path.{_≡_};
 ghost use Prim.Native.Nat.{_<_};
 ghost use Rattle.fixed.specs.Bits.{bit};
 ghost use Rattle.registers.specs.Map.{registerAt, ofVoice, flagOf, Flags};
-ghost use Rattle.registers.specs.Offsets.{listed as listedAt, readOnly, notWritten};
+ghost use Rattle.registers.specs.Offsets.{listed as listedAt, readOnly, undocumentedBits, undocumented as undocumentedIn, notWritten};
 
 pub fn at(regs: &[u16; 256], offset: usize) -> u16
     requires { ⌜ offset < 512 ⌝ }
@@ -63,6 +63,28 @@ pub fn read_only(offset: u32) -> bool
 {
     (offset == 0x19C)
         | ((offset == 0x19E) | ((offset == 0x1AE) | ((offset == 0x1B8) | (offset == 0x1BA))))
+}
+
+// The bits of a register that nobody has documented, as a mask.
+fn undocumented_bits(offset: u32) -> u16
+    ensures { λ r. ⌜ r ≡ undocumentedBits offset ⌝ }
+{
+    if (offset < 0x180) & (offset % 16 == 0xA) {
+        return 0x2000;
+    }
+    if ((0x188 <= offset) & (offset <= 0x19E)) & (offset % 4 == 2) {
+        return 0xFF00;
+    }
+    if offset == 0x1AC {
+        return 0xFFF1;
+    }
+    0
+}
+
+pub fn undocumented(offset: u32, value: u16) -> bool
+    ensures { λ r. ⌜ r ≡ undocumentedIn offset value ⌝ }
+{
+    value & undocumented_bits(offset) != 0
 }
 
 pub fn not_written(offset: u32, value: u16) -> bool

@@ -1,5 +1,6 @@
 pub mod Demand
 pub mod Range
 pub mod Numbers
+pub mod Undocumented
 pub mod Lent
 pub mod Shape

@@ -11,7 +11,7 @@ use Rattle.stereo.specs.declared.Stereo.{Stereo}
 use Rattle.stereo.specs.Float.{stereoOf}
 use Rattle.soundram.specs.Program.{done, bind}
 use Rattle.soundram.specs.Calls.{Reply, Doing, still, works, Machine, Outcome, outcome}
-use Rattle.registers.specs.Offsets.{listed, readOnly, notWritten, notRead}
+use Rattle.registers.specs.Offsets.{listed, readOnly, undocumented, notWritten, notRead}
 use Rattle.chip.specs.declared.State.{State}
 use Rattle.chip.specs.State.{withTransfer, freshOf, sizeOk, stateOk, watchOf, watchedOf}
 use Rattle.ports.specs.Registers.{writeOf, readOf}
@@ -43,7 +43,8 @@ pub data Answer : Type 0 where
   made : ℕ → Answer
   viewed : ℕ → ℕ → Answer
 
--- ---- "Numbers a call returns": an ordered list of tests, of which the first that applies gives its number, and 0 where none does
+-- ---- "Numbers a call returns": an ordered list of tests, of which the first that applies gives its number, and 0 where none does. Document 01 gives the
+-- lowest number that applies; document 02 amends that rule: 11 is "tested after 4 and before 5"
 
 pub record Test : Type 0 where
   pub applies : Bool
@@ -95,7 +96,8 @@ abbrev pub moveTests : Bool → ℕ → List Test
 moveTests wrong n = test wrong 6 ∷ test (badCount n) 7 ∷ []
 
 abbrev pub testsOf : Call → State → ℕ → ℕ → List Test
-testsOf (write offset v) s ram marks = test (outside s) 2 ∷ test (not (listed offset)) 3 ∷ test (readOnly offset) 4 ∷ test (notWritten offset v) 5 ∷ []
+testsOf (write offset v) s ram marks =
+    test (outside s) 2 ∷ test (not (listed offset)) 3 ∷ test (readOnly offset) 4 ∷ test (undocumented offset v) 11 ∷ test (notWritten offset v) 5 ∷ []
 testsOf (read offset) s ram marks = test (outside s) 2 ∷ test (not (listed offset)) 3 ∷ test (notRead offset) 5 ∷ []
 testsOf (transferIn vs) s ram marks = lentTests s ram marks (moveTests (notInward s) (length vs))
 testsOf (transferOut b) s ram marks = lentTests s ram marks (moveTests (notOutward s) (length b))

@@ -10,7 +10,7 @@ use Rattle.chip.specs.State.{stateOk, freshOf, sizeOk}
 use Rattle.chip.proofs.Tests.{ok-sized}
 use Rattle.spu.specs.Step.{written, value, made, Test, test, firstOf, numberOf, refusedOf, acceptedOf, stepOf, write, read, reset, Gives, makeOf}
 use Rattle.spu.proofs.Range.{passed-first, passed-rest, accepted-ok, accepted-listed}
-use Rattle.registers.specs.Offsets.{listed, readOnly, notWritten, notRead}
+use Rattle.registers.specs.Offsets.{listed, readOnly, undocumented, notWritten, notRead}
 use Rattle.ports.specs.Registers.{writeOf, readOf}
 use Rattle.spu.proofs.Numbers.{here, later, none}
 
@@ -38,19 +38,24 @@ module _ (s : State) (offset : ℕ) (ts : List Test) where
   pub carried : {a b : Bool} {n : ℕ} → a ≡ stateOk s → not a ≡ false → b ≡ listed offset → not b ≡ false → n ≡ firstOf ts → n ≡ firstOf (registerTests s offset ts)
   carried p e q f g = later _ 2 _ (rw (← p) e) (later _ 3 _ (rw (← q) f) g)
 
--- the others of a write: c and d are the code's tests
+-- the others of a write: c, u and d are the code's tests
 module _ (offset v : ℕ) where
   abbrev writeTests : List Test
-  writeTests = test (readOnly offset) 4 ∷ test (notWritten offset v) 5 ∷ []
+  writeTests = test (readOnly offset) 4 ∷ test (undocumented offset v) 11 ∷ test (notWritten offset v) 5 ∷ []
 
   pub write-4 : {c : Bool} → c ≡ readOnly offset → c ≡ true → 4 ≡ firstOf writeTests
   write-4 r g = here _ 4 _ (rw (← r) g)
 
-  pub write-5 : {c d : Bool} → c ≡ readOnly offset → c ≡ false → d ≡ notWritten offset v → d ≡ true → 5 ≡ firstOf writeTests
-  write-5 r g t h = later _ 4 _ (rw (← r) g) (here _ 5 _ (rw (← t) h))
+  module _ {c : Bool} (r : c ≡ readOnly offset) (g : c ≡ false) {u : Bool} (p : u ≡ undocumented offset v) where
+    pub write-11 : u ≡ true → 11 ≡ firstOf writeTests
+    write-11 q = later _ 4 _ (rw (← r) g) (here _ 11 _ (rw (← p) q))
 
-  pub write-0 : {c d : Bool} → c ≡ readOnly offset → c ≡ false → d ≡ notWritten offset v → d ≡ false → 0 ≡ firstOf writeTests
-  write-0 r g t h = later _ 4 _ (rw (← r) g) (later _ 5 _ (rw (← t) h) none)
+    module _ (q : u ≡ false) {d : Bool} (t : d ≡ notWritten offset v) where
+      pub write-5 : d ≡ true → 5 ≡ firstOf writeTests
+      write-5 h = later _ 4 _ (rw (← r) g) (later _ 11 _ (rw (← p) q) (here _ 5 _ (rw (← t) h)))
+
+      pub write-0 : d ≡ false → 0 ≡ firstOf writeTests
+      write-0 h = later _ 4 _ (rw (← r) g) (later _ 11 _ (rw (← p) q) (later _ 5 _ (rw (← t) h) none))
 
 -- and of a read
 pub read-5 : (offset : ℕ) → offset ≡ 0x1A8 → 5 ≡ firstOf (test (notRead offset) 5 ∷ [])

@@ -45,6 +45,9 @@ fn write_number(s: State, offset: u32, value: u16) -> u8
     if registers::read_only(offset) {
         return 4;
     }
+    if registers::undocumented(offset, value) {
+        return 11;
+    }
     if registers::not_written(offset, value) {
         return 5;
     }
@@ -73,10 +76,7 @@ fn read_number(s: State, offset: u32) -> u8
     if !registers::listed(offset) {
         return 3;
     }
-    if offset == 0x1A8 {
-        return 5;
-    }
-    0
+    if offset == 0x1A8 { 5 } else { 0 }
 }
 
 // A register read.

@@ -3,7 +3,8 @@ use core::fmt;
 
 /// Why a call was refused. A refused call changes nothing.
 ///
-/// Where several reasons apply, the call returns the one with the lowest number.
+/// Where several reasons apply, the call returns the one with the lowest number, except that
+/// [`Undocumented`](Refusal::Undocumented) goes before [`NotCarried`](Refusal::NotCarried).
 #[derive(Debug, Clone, Copy, PartialEq, Eq, Hash)]
 #[non_exhaustive]
 pub enum Refusal {
@@ -27,6 +28,9 @@ pub enum Refusal {
     Bank = 9,
     /// 10: no bank that was handed in has an entry with this number.
     NoEntry = 10,
+    /// 11: a write sets a bit that nobody has documented: bit 13 of a voice's +Ah, bits 15-8 of 18Ah,
+    /// 18Eh, 192h, 196h and 19Ah, or bits 15-4 and 0 of 1ACh.
+    Undocumented = 11,
     /// 24: the buffer is shorter than the sound bank to be written.
     Room = 24,
     /// 25: the buffers of a run do not hold whole pairs, or have different lengths.
@@ -53,6 +57,7 @@ impl Refusal {
             8 => Refusal::Address,
             9 => Refusal::Bank,
             10 => Refusal::NoEntry,
+            11 => Refusal::Undocumented,
             24 => Refusal::Room,
             25 => Refusal::Buffers,
             _ => unreachable!("the library gives no other number"),
@@ -82,6 +87,10 @@ impl fmt::Display for Refusal {
             }
             Refusal::Bank => "a sound bank is damaged, or the entries handed in would make a damaged one",
             Refusal::NoEntry => "there is no entry with this number",
+            Refusal::Undocumented => {
+                "the value sets a bit that nobody has documented (bit 13 of a voice's +Ah; \
+                 bits 15-8 of 18Ah, 18Eh, 192h, 196h, 19Ah; bits 15-4 and 0 of 1ACh)"
+            }
             Refusal::Room => "the buffer is shorter than the sound bank to be written",
             Refusal::Buffers => "the buffers do not hold whole pairs, or have different lengths",
         })

@@ -77,6 +77,11 @@ fn registers() {
     assert_eq!(spu.write(0x181, 0), Err(Refusal::Offset));
     assert_eq!(spu.write(0x1AE, 0), Err(Refusal::ReadOnly));
     assert_eq!(spu.write(0x180, 0x8000), Err(Refusal::NotCarried));
+    for (offset, value) in [(0x00A, 0x2000), (0x17A, 0xFFFF), (0x18A, 0x0101), (0x19A, 0x8000), (0x1AC, 0x0005)] {
+        assert_eq!(spu.write(offset, value), Err(Refusal::Undocumented), "{offset:X}h");
+    }
+    assert_eq!((spu.write(0x1AC, 0x0006), spu.write(0x1AC, 0x0016)), (Err(Refusal::NotCarried), Err(Refusal::Undocumented)));
+    assert_eq!(spu.write(0x19E, 0xFF00), Err(Refusal::ReadOnly));
     assert_eq!(spu.read(0x200), Err(Refusal::Offset));
     assert_eq!(spu.read(0x1A8), Err(Refusal::NotCarried));
     assert_eq!(spu.state(), &before);
@@ -296,4 +301,5 @@ fn refusals_have_numbers_and_words() {
     let error: Box<dyn std::error::Error> = Box::new(Refusal::Count);
     assert_eq!(error.to_string(), "a transfer moves 1 to 32 halfwords");
     assert_eq!(Refusal::NotCarried.to_string(), "this register, or this value of it, is not carried");
+    assert_eq!(Refusal::Undocumented.number(), 11);
 }

@@ -4,7 +4,7 @@ use tenonwhisk::{bank, Refusal, State, VERSION};
 
 const HEADER: &str = include_str!("../../tenonwhisk.h");
 
-const REFUSALS: [(&str, Refusal); 12] = [
+const REFUSALS: [(&str, Refusal); 13] = [
     ("MEMORY", Refusal::Memory),
     ("STATE", Refusal::State),
     ("OFFSET", Refusal::Offset),
@@ -15,6 +15,7 @@ const REFUSALS: [(&str, Refusal); 12] = [
     ("ADDRESS", Refusal::Address),
     ("BANK", Refusal::Bank),
     ("NO_ENTRY", Refusal::NoEntry),
+    ("UNDOCUMENTED", Refusal::Undocumented),
     ("ROOM", Refusal::Room),
     ("BUFFERS", Refusal::Buffers),
 ];

@@ -20,7 +20,7 @@ fn an_empty_script_gives_no_sound() {
 #[test]
 fn bad_and_refused_lines_are_told_and_left_out() {
     let folder = Folder::new("bad-lines");
-    folder.write("s.txt", "t 1\nT 1\nw 180 8000\ns 0\nw 180\nw 1AE 0\nw 1A1 0\nt 65536\nt 1");
+    folder.write("s.txt", "t 1\nT 1\nw 180 8000\ns 0\nw 180\nw 1AE 0\nw 1A1 0\nw A 2000\nt 65536\nt 1");
     folder.render(&["s.txt", "out.wav"]).is(
         2,
         "line 2: bad line (w OFFSET VALUE, s V .., t N, l ADDRESS FILE, b NUMBER or # is expected)\n\
@@ -30,8 +30,10 @@ fn bad_and_refused_lines_are_told_and_left_out() {
          line 5: bad line (w OFFSET VALUE is expected, each hex, 1 to 4 digits)\n\
          line 6: refused (4): this register can only be read\n\
          line 7: refused (3): there is no register at this offset\n\
-         line 8: bad line (t N is expected, N decimal, up to 65535)\n\
-         out.wav: 0.000 s, lines bad or refused: 7\n",
+         line 8: refused (11): the value sets a bit that nobody has documented (bit 13 of a voice's +Ah; \
+         bits 15-8 of 18Ah, 18Eh, 192h, 196h, 19Ah; bits 15-4 and 0 of 1ACh)\n\
+         line 9: bad line (t N is expected, N decimal, up to 65535)\n\
+         out.wav: 0.000 s, lines bad or refused: 8\n",
     );
     assert_eq!(samples(&folder.read("out.wav")).len(), 4);
 }
