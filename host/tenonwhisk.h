@@ -52,23 +52,23 @@ extern "C" {
 /* ---- numbers */
 
 /* What a call returns: TENONWHISK_DONE, or why it was refused. Where several reasons apply, it returns the lowest
- * number, except that TENONWHISK_UNDOCUMENTED goes before TENONWHISK_NOT_CARRIED. Bytes that are not a state do not name
- * an L, so for them it returns TENONWHISK_STATE. */
+ * number, except that TENONWHISK_UNDOCUMENTED goes before TENONWHISK_NOT_CARRIED. Bytes that are not a state do not
+ * name an L, so for them it returns TENONWHISK_STATE. */
 enum tenonwhisk_number {
     TENONWHISK_DONE = 0,
-    TENONWHISK_MEMORY = 1,      /* RAM or marks do not have the lengths that the state's L asks for; or no such L */
-    TENONWHISK_STATE = 2,       /* not a state: other bytes, another length, or a field out of range */
-    TENONWHISK_OFFSET = 3,      /* the register offset is odd or not listed */
-    TENONWHISK_READ_ONLY = 4,   /* a write to a register that can only be read */
-    TENONWHISK_NOT_CARRIED = 5, /* the register is listed, but it, or this value of it, is not carried */
-    TENONWHISK_MODE = 6,        /* another transfer mode is applied */
-    TENONWHISK_COUNT = 7,       /* a transfer of no halfwords, or of more than 32 */
-    TENONWHISK_ADDRESS = 8,     /* the block address is not a multiple of 8, or is beyond L-16 */
-    TENONWHISK_BANK = 9,        /* a bank is damaged, or the entries handed in would make a damaged one */
-    TENONWHISK_NO_ENTRY = 10,   /* no bank that was handed in has an entry with this number */
+    TENONWHISK_MEMORY = 1,        /* RAM or marks do not have the lengths that the state's L asks for; or no such L */
+    TENONWHISK_STATE = 2,         /* not a state: other bytes, another length, or a field out of range */
+    TENONWHISK_OFFSET = 3,        /* the register offset is odd or not listed */
+    TENONWHISK_READ_ONLY = 4,     /* a write to a register that can only be read */
+    TENONWHISK_NOT_CARRIED = 5,   /* the register is listed, but it, or this value of it, is not carried */
+    TENONWHISK_MODE = 6,          /* another transfer mode is applied */
+    TENONWHISK_COUNT = 7,         /* a transfer of no halfwords, or of more than 32 */
+    TENONWHISK_ADDRESS = 8,       /* the block address is not a multiple of 8, or is beyond L-16 */
+    TENONWHISK_BANK = 9,          /* a bank is damaged, or the entries handed in would make a damaged one */
+    TENONWHISK_NO_ENTRY = 10,     /* no bank that was handed in has an entry with this number */
     TENONWHISK_UNDOCUMENTED = 11, /* a write sets a bit that nobody has documented */
-    TENONWHISK_ROOM = 24,       /* the buffer is shorter than the bank to be written */
-    TENONWHISK_BUFFERS = 25     /* the buffers of a run do not hold whole pairs, or have different lengths */
+    TENONWHISK_ROOM = 24,         /* the buffer is shorter than the bank to be written */
+    TENONWHISK_BUFFERS = 25       /* the buffers of a run do not hold whole pairs, or have different lengths */
 };
 
 /* Returns a number's meaning in plain words. */
@@ -100,8 +100,8 @@ static inline const char *tenonwhisk_words(uint8_t number)
     case TENONWHISK_NO_ENTRY:
         return "there is no entry with this number";
     case TENONWHISK_UNDOCUMENTED:
-        return "the value sets a bit that nobody has documented (bit 13 of a voice's +Ah; bits 15-8 of 18Ah, 18Eh, 192h, "
-               "196h, 19Ah; bits 15-4 and 0 of 1ACh)";
+        return "the value sets a bit that nobody has documented (bit 13 of a voice's +Ah; "
+               "bits 15-8 of 18Ah, 18Eh, 192h, 196h, 19Ah; bits 15-4 and 0 of 1ACh)";
     case TENONWHISK_ROOM:
         return "the buffer is shorter than the sound bank to be written";
     case TENONWHISK_BUFFERS:
@@ -133,11 +133,12 @@ struct tenonwhisk_overview tenonwhisk_status(const uint8_t *state, size_t state_
 
 /* ---- registers, by their offset from 1F801C00h */
 
-/* Writes a register. Returns 0, 2, 3, 4, 11 or 5, the first of these that applies after 0.
+/* Writes a register. Returns 0, 2, 3, 4, 5 or 11.
  *
- * 11 is for bits that the public register description calls unused or unknown, where consoles need not agree: bit 13 of
- * a voice's +Ah (bit 29 of ADSR), bits 15-8 of 18Ah, 18Eh, 192h, 196h and 19Ah (bits 31-24 of KON, KOFF, PMON, NON and
- * EON), and bits 15-4 and 0 of 1ACh. Write them as 0. A state that already holds such a bit is accepted. */
+ * 11 is for bits that the public register description calls unused or unknown: nobody can say what a console does with
+ * them. They are bit 13 of a voice's +Ah (bit 29 of ADSR), bits 15-8 of 18Ah, 18Eh, 192h, 196h and 19Ah (bits 31-24 of
+ * KON, KOFF, PMON, NON and EON), and bits 15-4 and 0 of 1ACh. Write them as 0. A state that already holds such a bit is
+ * accepted. */
 uint8_t tenonwhisk_write(uint8_t *state, size_t state_len, uint32_t offset, uint16_t value);
 
 struct tenonwhisk_reading {

@@ -21,18 +21,16 @@ listed offset =
 unfoldable pub readOnly : ℕ → Bool
 readOnly offset = eqb offset 0x19C || (eqb offset 0x19E || (eqb offset 0x1AE || (eqb offset 0x1B8 || eqb offset 0x1BA)))
 
--- Document 02, M-103: "bits that source document 000 calls unused .. 1ACh bits 15-4 and 0, bit 29 of ADSR, and bits 15-8 of the upper flag registers".
-
--- "____upper 16bit (at 1F801C0Ah+N*10h)": bits 31-16 of ADSR
+-- "+8 and +Ah ADSR": +Ah is its upper half, bits 31-16
 abbrev pub isUpperAdsr : ℕ → Bool
 isUpperAdsr offset = isVoice offset && eqb (offset % 16) 0xA
 
--- bits 31-16 of KON, KOFF, PMON, NON, EON and ENDX: 18Ah, 18Eh, 192h, 196h, 19Ah and 19Eh
+-- "188h..19Eh flags in pairs KON, KOFF, PMON, NON, EON, ENDX": the upper halves, 18Ah, 18Eh, 192h, 196h, 19Ah, 19Eh
 abbrev pub isUpperFlags : ℕ → Bool
 isUpperFlags offset = between 0x188 0x19E offset && eqb (offset % 4) 2
 
--- The mask of these bits, by offset. 000 has, in this order, "29 Not used? (should be zero)", "24-31 Not used", and of 1ACh "15-4 Unknown/no effect? (should be
--- zero)" and "0 Unknown/no effect? (should be zero)".
+-- undocumented bits, a term of document 02 (M-103): those that 000 calls unused, as a mask. "bit 29 of ADSR" (000: "29 Not used? (should be zero)"), "bits 15-8 of
+-- the upper flag registers" ("24-31 Not used"), "1ACh bits 15-4 and 0" ("15-4 Unknown/no effect? (should be zero)", "0 Unknown/no effect? (should be zero)")
 unfoldable pub undocumentedBits : ℕ → ℕ
 undocumentedBits offset = cond (isUpperAdsr offset) 0x2000 (cond (isUpperFlags offset) 0xFF00 (cond (eqb offset 0x1AC) 0xFFF1 0))
 

@@ -171,6 +171,9 @@ impl<M: AsRef<[u8]> + AsMut<[u8]>> Spu<M> {
     }
 
     /// Writes the register at an offset from 1F801C00h.
+    ///
+    /// A value that sets a bit which nobody has documented is refused ([`Refusal::Undocumented`]): write such bits
+    /// as 0.
     pub fn write(&mut self, offset: u32, value: u16) -> Result<(), Refusal> {
         self.state.write(offset, value)
     }

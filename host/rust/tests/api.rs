@@ -80,7 +80,8 @@ fn registers() {
     for (offset, value) in [(0x00A, 0x2000), (0x17A, 0xFFFF), (0x18A, 0x0101), (0x19A, 0x8000), (0x1AC, 0x0005)] {
         assert_eq!(spu.write(offset, value), Err(Refusal::Undocumented), "{offset:X}h");
     }
-    assert_eq!((spu.write(0x1AC, 0x0006), spu.write(0x1AC, 0x0016)), (Err(Refusal::NotCarried), Err(Refusal::Undocumented)));
+    assert_eq!(spu.write(0x1AC, 0x0006), Err(Refusal::NotCarried));
+    assert_eq!(spu.write(0x1AC, 0x0016), Err(Refusal::Undocumented));
     assert_eq!(spu.write(0x19E, 0xFF00), Err(Refusal::ReadOnly));
     assert_eq!(spu.read(0x200), Err(Refusal::Offset));
     assert_eq!(spu.read(0x1A8), Err(Refusal::NotCarried));
