@@ -31,13 +31,13 @@ same-is false true t = absurd t
 same-is false false t = refl
 
 -- register h is one half of a 32-bit register
-abbrev as-in-000 : ℕ → ℕ → Bool
-as-in-000 h k = same (bit k (undocumentedBits (2 * h))) (unusedIn000 (h / 2 * 4) (h % 2 * 16 + k))
+abbrev asIn000 : ℕ → ℕ → Bool
+asIn000 h k = same (bit k (undocumentedBits (2 * h))) (unusedIn000 (h / 2 * 4) (h % 2 * 16 + k))
 
 -- one test of the 256 registers and their 16 bits
 pub mask-bits : (h k : ℕ) → h < 256 → k < 16 → bit k (undocumentedBits (2 * h)) ≡ unusedIn000 (h / 2 * 4) (h % 2 * 16 + k)
 unfolding undocumentedBits
-mask-bits h k p q = same-is _ _ (below-at 16 (as-in-000 h) (below-at 256 (λ n. below 16 (as-in-000 n)) tt h p) k q)
+mask-bits h k p q = same-is _ _ (below-at 16 (asIn000 h) (below-at 256 (λ n. below 16 (asIn000 n)) tt h p) k q)
 
 -- ---- "a nonzero bit there"
 
@@ -45,7 +45,7 @@ mask-bits h k p q = same-is _ _ (below-at 16 (as-in-000 h) (below-at 256 (λ n. 
 abbrev pub Apart : ℕ → ℕ → Type 0
 Apart a b = (k : ℕ) → bit k b ≡ true → bit k a ≡ false
 
--- one digit of each
+-- one digit of each number
 least-zero : (x y : ℕ) → x < 2 → y < 2 → (eqb y 1 ≡ true → eqb x 1 ≡ false) → min x y ≡ 0
 least-zero zero y p q f = zero-min y
 least-zero (suc x) zero p q f = min-zero (suc x)
@@ -69,7 +69,7 @@ apart-and (suc n) k a b h f =
     let m = least-zero (field k 1 a) (field k 1 b) (omega arith) (omega arith) (f k) in
     and-step (a / 2 ^ k) (b / 2 ^ k) ∙ rw (e, g, r, m)
 
--- a write escapes 11 exactly when every undocumented bit of its value is zero
+-- the test of number 11 fails exactly when every undocumented bit of the value is zero
 pub undocumented-exactly : (offset value : ℕ) → value < 0x10000
     → (undocumented offset value ≡ false → Apart value (undocumentedBits offset)) × (Apart value (undocumentedBits offset) → undocumented offset value ≡ false)
 unfolding undocumented
