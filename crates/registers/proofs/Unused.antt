@@ -1,4 +1,4 @@
--- The mask of undocumented bits beside document 000's lists (document 02, M-103). Assumes nothing.
+-- The mask of undocumented bits beside document 02's list of them (M-103), in 000's numbering. Assumes nothing.
 use mathlib.Core.Path.{_≡_, refl, sym, ap, _∙_}
 use mathlib.Core.Bool.{Bool, true, false, cond, _&&_, _||_, not}
 use Prim.Native.Nat.{ℕ, zero, suc, _+_, _*_, _/_, _%_, _^_, _<_, min}
@@ -15,8 +15,8 @@ use Rattle.registers.specs.Offsets.{between, isVoice, undocumentedBits, 
 
 -- ---- each bit
 
--- 000 counts the bits of 32-bit registers. By the offset of such a register's lower half: ADSR "29 Not used? (should be zero)"; KON to ENDX "24-31 Not used";
--- 1ACh "15-4 Unknown/no effect? (should be zero)", "0 Unknown/no effect? (should be zero)"
+-- 000 counts the bits of ADSR and of the flags as those of 32-bit registers. By the offset of such a register's lower half: "bit 29 of ADSR"; "bits 15-8 of the
+-- upper flag registers", 000's 24-31; "1ACh bits 15-4 and 0"
 abbrev pub unusedIn000 : ℕ → ℕ → Bool
 unusedIn000 lower k =
     (isVoice lower && (eqb (lower % 16) 8 && eqb k 29)) || ((between 0x188 0x19C lower && leb 24 k) || (eqb lower 0x1AC && (between 4 15 k || eqb k 0)))

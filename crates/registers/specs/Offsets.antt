@@ -29,8 +29,9 @@ isUpperAdsr offset = isVoice offset && eqb (offset % 16) 0xA
 abbrev pub isUpperFlags : ℕ → Bool
 isUpperFlags offset = between 0x188 0x19E offset && eqb (offset % 4) 2
 
--- undocumented bits, a term of document 02 (M-103): those that 000 calls unused, as a mask. "bit 29 of ADSR" (000: "29 Not used? (should be zero)"), "bits 15-8 of
--- the upper flag registers" ("24-31 Not used"), "1ACh bits 15-4 and 0" ("15-4 Unknown/no effect? (should be zero)", "0 Unknown/no effect? (should be zero)")
+-- undocumented bits, a term of document 02 (M-103): those of 000's unused bits that it lists, as a mask. "bit 29 of ADSR" (000: "29 Not used? (should be zero)"),
+-- "bits 15-8 of the upper flag registers" ("24-31 Not used"), "1ACh bits 15-4 and 0" ("15-4 Unknown/no effect? (should be zero)", "0 Unknown/no effect? (should be
+-- zero)"). PMON's "0 Unknown... Unused?" is not on the list
 unfoldable pub undocumentedBits : ℕ → ℕ
 undocumentedBits offset = cond (isUpperAdsr offset) 0x2000 (cond (isUpperFlags offset) 0xFF00 (cond (eqb offset 0x1AC) 0xFFF1 0))
 
