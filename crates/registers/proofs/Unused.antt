@@ -17,8 +17,8 @@ use Rattle.registers.specs.Offsets.{between, isVoice, undocumentedBits, 
 
 -- 000 counts the bits of ADSR and of the flags as those of 32-bit registers. By the offset of such a register's lower half: "bit 29 of ADSR"; "bits 15-8 of the
 -- upper flag registers", 000's 24-31; "1ACh bits 15-4 and 0"
-abbrev pub unusedIn000 : ℕ → ℕ → Bool
-unusedIn000 lower k =
+abbrev pub unusedBit : ℕ → ℕ → Bool
+unusedBit lower k =
     (isVoice lower && (eqb (lower % 16) 8 && eqb k 29)) || ((between 0x188 0x19C lower && leb 24 k) || (eqb lower 0x1AC && (between 4 15 k || eqb k 0)))
 
 abbrev same : Bool → Bool → Bool
@@ -31,13 +31,13 @@ same-is false true t = absurd t
 same-is false false t = refl
 
 -- register h is one half of a 32-bit register
-abbrev asIn000 : ℕ → ℕ → Bool
-asIn000 h k = same (bit k (undocumentedBits (2 * h))) (unusedIn000 (h / 2 * 4) (h % 2 * 16 + k))
+abbrev asListed : ℕ → ℕ → Bool
+asListed h k = same (bit k (undocumentedBits (2 * h))) (unusedBit (h / 2 * 4) (h % 2 * 16 + k))
 
 -- one test of the 256 registers and their 16 bits
-pub mask-bits : (h k : ℕ) → h < 256 → k < 16 → bit k (undocumentedBits (2 * h)) ≡ unusedIn000 (h / 2 * 4) (h % 2 * 16 + k)
+pub mask-bits : (h k : ℕ) → h < 256 → k < 16 → bit k (undocumentedBits (2 * h)) ≡ unusedBit (h / 2 * 4) (h % 2 * 16 + k)
 unfolding undocumentedBits
-mask-bits h k p q = same-is _ _ (below-at 16 (asIn000 h) (below-at 256 (λ n. below 16 (asIn000 n)) tt h p) k q)
+mask-bits h k p q = same-is _ _ (below-at 16 (asListed h) (below-at 256 (λ n. below 16 (asListed n)) tt h p) k q)
 
 -- ---- "a nonzero bit there"
 
