@@ -230,9 +230,9 @@ for register, name in ((0x188, "KON"), (0x18C, "KOFF"), (0x190, "PMON"), (0x194,
           UPPER_FLAGS, UPPER_FLAGS.replace("(", f"(0x{register:X}, "))
 for k in range(16):
     for mask, name, where in ((0xFF00, "flags", "the upper flag registers"), (0xFFF1, "type", "1ACh")):
-        taken = mask >> k & 1
-        wrong(f"undocumented_{name}_{'not' if taken else 'and'}_{k}",
-              f"Bit {k} of {where} {'does not give' if taken else 'gives'} 11.",
+        refused = mask >> k & 1
+        wrong(f"undocumented_{name}_{'not' if refused else 'and'}_{k}",
+              f"Bit {k} of {where} {'does not give' if refused else 'gives'} 11.",
               f"return 0x{mask:X}", f"return 0x{mask ^ 1 << k:X}")
 
 # ---- Ranges that a session comes up to
