@@ -28,7 +28,7 @@ pub acts-self : (most other x : ℕ) → x ≤ most → x ≡ actsAs most other 
 unfolding actsAs
 acts-self most other x h = rw (le-ltb most x h)
 
-acts-most : (most other x : ℕ) → other ≤ most → actsAs most other x ≤ most
+pub acts-most : (most other x : ℕ) → other ≤ most → actsAs most other x ≤ most
 acts-most most other x o = by (decLe x most)
   where
     by : Dec (x ≤ most) → actsAs most other x ≤ most

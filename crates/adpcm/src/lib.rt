@@ -12,7 +12,7 @@ pub struct Header {
     pub filter: u8,
 }
 
-fn acts_as(most: u8, other: u8, x: u8) -> u8
+pub fn acts_as(most: u8, other: u8, x: u8) -> u8
     ensures { λ r. ⌜ r ≡ actsAs most other x ⌝ }
 {
     if most < x { other } else { x }
@@ -32,14 +32,14 @@ const K0: [i32; 5] = [0, 60, 115, 98, 122];
 
 const K1: [i32; 5] = [0, 0, -52, -55, -60];
 
-fn k0(filter: u8) -> i32
+pub fn k0(filter: u8) -> i32
     requires { ⌜ filter < 5 ⌝ }
     ensures { λ r. ⌜ (r ≡ k0Of filter) × (In 0 122 r) ⌝ }
 {
     K0[filter as usize]
 }
 
-fn k1(filter: u8) -> i32
+pub fn k1(filter: u8) -> i32
     requires { ⌜ filter < 5 ⌝ }
     ensures { λ r. ⌜ (r ≡ k1Of filter) × (In 60 0 r) ⌝ }
 {
