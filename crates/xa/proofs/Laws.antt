@@ -4,7 +4,7 @@ use mathlib.Core.Bool.{Bool, true, false, cond, not, _&&_}
 use mathlib.Core.List.{List, [], _∷_, _++_}
 use Prim.Native.Nat.{ℕ, zero, suc, _+_, _-_, _*_, _/_, _%_, _≤_, _<_}
 use native.Mathlib.Numerals.{add-one}
-use native.Mathlib.Nat.{mul-le-mul-right}
+use native.Mathlib.Nat.{div-one, mul-le-mul-right}
 use native.Mathlib.Omega.{arith}
 use borrow.Author.Tests.{ne-eqb, eqb-true, not-true, not-false}
 use lib.ListN.{length, set, length-append, length-set}
@@ -17,7 +17,7 @@ use Rattle.adpcm.specs.Adpcm.{actsAs, sampleOf, samplesOf}
 use Rattle.adpcm.proofs.Laws.{acts-most}
 use Rattle.xa.specs.declared.History.{History}
 use Rattle.xa.specs.declared.Histories.{Histories}
-use Rattle.xa.specs.Xa.{allBelow, areCopied, headerByte, headerOf, nibbleOf, nibblesOf, unitOf, afterOf, channelOf, monoOf, leftOf, rightOf, alternateOf, placedOf, isSized, numberOf, acceptedOf, decodedOf}
+use Rattle.xa.specs.Xa.{byteOf, allBelow, areCopied, headerByte, headerOf, nibbleOf, nibblesOf, unitOf, afterOf, channelOf, monoOf, leftOf, rightOf, alternateOf, placedOf, isSized, numberOf, acceptedOf, decodedOf}
 
 -- ---- a test at each number below a limit
 
@@ -48,6 +48,14 @@ unfolding headerOf
 header-filter b h e = rw e (omega arith)
 
 -- ---- the nibbles
+
+pub nibble-even : (sector : List ℕ) (n j : ℕ) → n % 2 ≡ 0 → byteOf sector (n / 8) (16 + 4 * j + n % 8 / 2) % 16 ≡ nibbleOf sector n j
+unfolding nibbleOf
+nibble-even sector n j e = rw (e, div-one (byteOf sector (n / 8) (16 + 4 * j + n % 8 / 2)))
+
+pub nibble-odd : (sector : List ℕ) (n j : ℕ) → (n % 2 ≡ 0 → ⊥) → byteOf sector (n / 8) (16 + 4 * j + n % 8 / 2) / 16 % 16 ≡ nibbleOf sector n j
+unfolding nibbleOf
+nibble-odd sector n j f = let e : n % 2 ≡ 1 = omega arith in rw e
 
 pub nibble-below : (sector : List ℕ) (n j : ℕ) {t : ℕ} → t ≡ nibbleOf sector n j → t < 16
 unfolding nibbleOf
@@ -211,13 +219,13 @@ module _ (sector : List ℕ) (out : List ℤ) where
     number-13 eight e = rw (not-false (isSized sector out) s, e)
 
     module _ (eight : Bool) (e : eight ≡ false) where
-      pub number-0 : {c : Bool} → c ≡ areCopied sector → c ≡ true → 0 ≡ numberOf sector eight out
+      pub number-12 : {c : Bool} → c ≡ areCopied sector → not c ≡ true → 12 ≡ numberOf sector eight out
       unfolding numberOf
-      number-0 f t = rw (not-false (isSized sector out) s, e, ← f, t)
+      number-12 {c} f t = rw (not-false (isSized sector out) s, e, ← f, not-true c t)
 
-      pub number-12 : {c : Bool} → c ≡ areCopied sector → c ≡ false → 12 ≡ numberOf sector eight out
+      pub number-0 : {c : Bool} → c ≡ areCopied sector → not c ≡ false → 0 ≡ numberOf sector eight out
       unfolding numberOf
-      number-12 f t = rw (not-false (isSized sector out) s, e, ← f, t)
+      number-0 {c} f t = rw (not-false (isSized sector out) s, e, ← f, not-false c t)
 
 module _ (sector : List ℕ) (stereo eight : Bool) (hs : Histories) (out : List ℤ) {number : ℕ} (e : number ≡ numberOf sector eight out) where
   pub decoded-refused : (number ≡ 0 → ⊥) → record { number = number; histories = hs; out = out } ≡ decodedOf sector stereo eight hs out

@@ -89,7 +89,10 @@ fn nibble(sector: &[u8], n: usize, j: usize) -> u8
     ensures { λ r. ⌜ r ≡ nibbleOf (now (sector .entry)) n j ⌝ }
 {
     let byte = sector[n / 8 * 128 + (16 + 4 * j + n % 8 / 2)];
-    (byte >> (n % 2 * 4)) % 16
+    if n % 2 == 0 {
+        return byte % 16;
+    }
+    byte / 16 % 16
 }
 
 // Decodes unit n to every `step`-th place from `at` on.
@@ -144,10 +147,10 @@ fn number_of(sector: &[u8], eight_bit: bool, out: &[i16]) -> u8
     if eight_bit {
         return 13;
     }
-    if are_copied(sector) {
-        return 0;
+    if !are_copied(sector) {
+        return 12;
     }
-    12
+    0
 }
 
 // The samples of a sector. The number is 14 if the sector or the buffer has another length, 13 for samples of 8 bits, and 12 if a header differs from its copy.

@@ -1,5 +1,4 @@
-use mathlib.Core.Path.{refl}
-use Rattle.xa.specs.Xa.{nibbleOf}
+use Rattle.xa.proofs.Laws.{nibble-even, nibble-odd}
 use borrow.Author.Needs.{needs}
 use Rattle.xa.proofs.nibble.Statement.{statement}
 use Rattle.xa.proofs.nibble.Tie as tie
@@ -22,18 +21,11 @@ add-byte-3 c = search needs
 shared-slice-read-byte : tie.Need-shared-slice-read-byte
 shared-slice-read-byte c = search needs
 
-mul-result : tie.Need-mul-result
-mul-result c = search needs
-
-cast-result : tie.Need-cast-result
-cast-result c = search needs
-
-shr-result : tie.Need-shr-result
-shr-result c = search needs
-
 returns : tie.Need-returns
-unfolding nibbleOf
-returns c = refl
+returns c = search nibble-even
+
+returns-2 : tie.Need-returns-2
+returns-2 c = search nibble-odd
 
 pub nibble-spec : {M : Type 1} → statement M
 nibble-spec =
@@ -45,7 +37,5 @@ nibble-spec =
     add-byte-2
     add-byte-3
     shared-slice-read-byte
-    mul-result
-    cast-result
-    shr-result
-    returns)
+    returns
+    returns-2)

@@ -13,10 +13,10 @@ are-copied-requires : tie.Need-are-copied-requires
 are-copied-requires c κs = let a = c .before .before .before .args in sized (a .sector .now) (a .out .now) (c .before .if1 .left) .bytes
 
 returns-3 : tie.Need-returns-3
-returns-3 c = search number-0
+returns-3 c = search number-12
 
 returns-4 : tie.Need-returns-4
-returns-4 c = search number-12
+returns-4 c = search number-0
 
 pub number-of-spec : {M : Type 1} → statement M
 number-of-spec = tie.close (tie.spec returns returns-2 are-copied-requires returns-3 returns-4)
