@@ -187,23 +187,19 @@ placed-stereo (x ∷ xs) (y ∷ ys) (a ∷ b ∷ out) e l =
 
 -- ---- a sector
 
-pub record Sized (sector : List ℕ) (out : List ℤ) : Type 0 where
-  pub bytes : length sector ≡ 2304
-  pub samples : length out ≡ 4032
-
 module _ (sector : List ℕ) (out : List ℤ) where
-  sized-by : isSized sector out ≡ true → Sized sector out
+  sized-by : isSized sector out ≡ true → (length sector ≡ 2304) × (length out ≡ 4032)
   sized-by t =
       let a = eqb (length sector) 2304 in
       let b = eqb (length out) 4032 in
-      record { bytes = eqb-true (length sector) 2304 (and-first a b t); samples = eqb-true (length out) 4032 (and-rest a b t) }
+      (eqb-true (length sector) 2304 (and-first a b t), eqb-true (length out) 4032 (and-rest a b t))
 
-  pub sized : not (isSized sector out) ≡ false → Sized sector out
-  sized t = sized-by (not-false (isSized sector out) t)
+  pub sized : not (isSized sector out) ≡ false → length sector ≡ 2304
+  sized t = sized-by (not-false (isSized sector out) t) .0
 
-  pub number-sized : (eight : Bool) → numberOf sector eight out ≡ 0 → Sized sector out
+  pub number-sized : (eight : Bool) {number : ℕ} → number ≡ numberOf sector eight out → number ≡ 0 → (length sector ≡ 2304) × (length out ≡ 4032)
   unfolding numberOf
-  number-sized eight e = sized-by (by (isSized sector out) (cond eight 13 (cond (areCopied sector) 0 12)) e)
+  number-sized eight e z = sized-by (by (isSized sector out) (cond eight 13 (cond (areCopied sector) 0 12)) (sym e ∙ z))
     where
       by : (b : Bool) (n : ℕ) → cond b n 14 ≡ 0 → b ≡ true
       by true n e = refl
@@ -227,39 +223,29 @@ module _ (sector : List ℕ) (out : List ℤ) where
       unfolding numberOf
       number-0 {c} f t = rw (not-false (isSized sector out) s, e, ← f, not-false c t)
 
+module _ (sector : List ℕ) (hs : Histories) (out : List ℤ) (s : length out ≡ 4032) where
+  pub stereo-accepted : {left right : History} {out₁ out₂ : List ℤ}
+      → (out₁ ≡ placedOf out 0 2 (leftOf sector (hs .left))) × (left ≡ afterOf (hs .left) (leftOf sector (hs .left)))
+      → (out₂ ≡ placedOf out₁ 1 2 (rightOf sector (hs .right))) × (right ≡ afterOf (hs .right) (rightOf sector (hs .right)))
+      → record { number = 0; histories = record { left = left; right = right; mono = hs .mono }; out = out₂ } ≡ acceptedOf sector true hs
+  unfolding acceptedOf
+  stereo-accepted l r =
+      let a = channel-length sector 0 2 (hs .left) 72 in
+      let b = channel-length sector 1 2 (hs .right) 72 in
+      rw (l .1, r .1, r .0, l .0, placed-stereo (leftOf sector (hs .left)) (rightOf sector (hs .right)) out (b ∙ sym a) (s ∙ omega (arith, a)))
+
+  pub mono-accepted : {mono : History} {out₁ : List ℤ}
+      → (out₁ ≡ placedOf out 0 1 (monoOf sector (hs .mono))) × (mono ≡ afterOf (hs .mono) (monoOf sector (hs .mono)))
+      → record { number = 0; histories = record { left = hs .left; right = hs .right; mono = mono }; out = out₁ } ≡ acceptedOf sector false hs
+  unfolding acceptedOf
+  mono-accepted m = rw (m .1, m .0, placed-mono (monoOf sector (hs .mono)) out (s ∙ sym (channel-length sector 0 1 (hs .mono) 144)))
+
 module _ (sector : List ℕ) (stereo eight : Bool) (hs : Histories) (out : List ℤ) {number : ℕ} (e : number ≡ numberOf sector eight out) where
   pub decoded-refused : (number ≡ 0 → ⊥) → record { number = number; histories = hs; out = out } ≡ decodedOf sector stereo eight hs out
   unfolding decodedOf
   decoded-refused f = rw (← e, ne-eqb number 0 f)
 
-  module _ (z : number ≡ 0) where
-    decoded-accepted : acceptedOf sector stereo hs ≡ decodedOf sector stereo eight hs out
-    unfolding decodedOf
-    decoded-accepted = rw (← e, z)
-
-    pub decoded-sized : Sized sector out
-    decoded-sized = number-sized sector out eight (sym e ∙ z)
-
-    pub decoded-stereo : {left right : History} {out₁ out₂ : List ℤ} → stereo ≡ true
-        → (out₁ ≡ placedOf out 0 2 (leftOf sector (hs .left))) × (left ≡ afterOf (hs .left) (leftOf sector (hs .left)))
-        → (out₂ ≡ placedOf out₁ 1 2 (rightOf sector (hs .right))) × (right ≡ afterOf (hs .right) (rightOf sector (hs .right)))
-        → record { number = number; histories = record { left = left; right = right; mono = hs .mono }; out = out₂ } ≡ decodedOf sector stereo eight hs out
-    unfolding acceptedOf
-    decoded-stereo t l r =
-        let xs = leftOf sector (hs .left) in
-        let ys = rightOf sector (hs .right) in
-        let a = channel-length sector 0 2 (hs .left) 72 in
-        let b = channel-length sector 1 2 (hs .right) 72 in
-        let s = decoded-sized in
-        let p = placed-stereo xs ys out (b ∙ sym a) (s .samples ∙ omega (arith, a)) in
-        rw (z, l .1, r .1, r .0, l .0, p) (ap (λ (b : Bool). acceptedOf sector b hs) (sym t) ∙ decoded-accepted)
-
-    pub decoded-mono : {mono : History} {out₁ : List ℤ} → stereo ≡ false
-        → (out₁ ≡ placedOf out 0 1 (monoOf sector (hs .mono))) × (mono ≡ afterOf (hs .mono) (monoOf sector (hs .mono)))
-        → record { number = number; histories = record { left = hs .left; right = hs .right; mono = mono }; out = out₁ } ≡ decodedOf sector stereo eight hs out
-    unfolding acceptedOf
-    decoded-mono t m =
-        let a = channel-length sector 0 1 (hs .mono) 144 in
-        let s = decoded-sized in
-        let p = placed-mono (monoOf sector (hs .mono)) out (s .samples ∙ sym a) in
-        rw (z, m .1, m .0, p) (ap (λ (b : Bool). acceptedOf sector b hs) (sym t) ∙ decoded-accepted)
+  pub decoded-accepted : {b : Bool} {after : Histories} {out₁ : List ℤ} → number ≡ 0 → stereo ≡ b → record { number = 0; histories = after; out = out₁ } ≡ acceptedOf sector b hs
+      → record { number = number; histories = after; out = out₁ } ≡ decodedOf sector stereo eight hs out
+  unfolding decodedOf
+  decoded-accepted z t a = rw (← e, z, t) a

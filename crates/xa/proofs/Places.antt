@@ -72,7 +72,7 @@ module _ (sector : List ℕ) (first step : ℕ) (h : History) where
             ap (λ (p : ℕ). getD (before ++ last) p (pos 0)) i ∙ getD-append-add before last j (pos 0) ∙ ap (λ (p : ℕ). sampleIn p j) (sym e)
       ]
 
--- "mono place 224·group + 28·unit + j"
+-- in mono, sample j of unit u of group g stands at 224·g + 28·u + j
 pub mono-place : (sector : List ℕ) (h : History) (g u j : ℕ) → g < 18 → u < 8 → j < 28
     → getD (monoOf sector h) (224 * g + 28 * u + j) (pos 0) ≡ sampleIn sector 0 1 h (8 * g + u) j
 mono-place sector h g u j a b c =
@@ -94,7 +94,7 @@ alternate-right (x ∷ xs) [] i e = absurd (omega arith)
 alternate-right (x ∷ xs) (y ∷ ys) zero e = refl
 alternate-right (x ∷ xs) (y ∷ ys) (suc i) e = let q : suc i + suc i + 1 ≡ suc (suc (i + i + 1)) = omega arith in rw q (alternate-right xs ys i (omega arith))
 
--- "stereo 224·group + 56·(unit div 2) + 2·j + (unit mod 2)", for the units 2k and 2k+1
+-- in stereo, sample j of unit 2k of group g stands at 224·g + 56·k + 2·j, and that of unit 2k+1 right after it
 module _ (sector : List ℕ) (left right : History) (g k j : ℕ) (a : g < 18) (b : k < 4) (c : j < 28) where
   e : length (rightOf sector right) ≡ length (leftOf sector left)
   e = channel-length sector 1 2 right 72 ∙ sym (channel-length sector 0 2 left 72)

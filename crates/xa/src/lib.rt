@@ -1,8 +1,9 @@
 // XA speech: the samples of a sector of CD-ROM XA ADPCM.
 ghost use mathlib.Core.Path.{_≡_};
+ghost use mathlib.Core.Bool.{true, false};
 ghost use Prim.Native.Nat.{_+_, _*_, _≤_, _<_};
 ghost use lib.ListN.{length};
-ghost use Rattle.xa.specs.Xa.{isGroupCopied, areCopied, headerByte, headerOf, nibbleOf, unitOf, afterOf, channelOf, placedOf, freshOf, numberOf, decodedOf};
+ghost use Rattle.xa.specs.Xa.{isGroupCopied, areCopied, headerByte, headerOf, nibbleOf, unitOf, afterOf, channelOf, placedOf, freshOf, numberOf, acceptedOf, decodedOf};
 use adpcm::Header;
 
 // The last two samples of a channel.
@@ -137,6 +138,26 @@ fn channel(
 
 // ---- a sector
 
+fn decode_stereo(sector: &[u8], histories: Histories, out: &mut [i16]) -> Histories
+    requires { ⌜ (length (now sector) ≡ 2304) × (length (now out) ≡ 4032) ⌝ }
+    ensures { λ r. ⌜ record { number = 0; histories = r; out = now (out .exit) } ≡ acceptedOf (now (sector .entry)) true histories ⌝ }
+{
+    let left = channel(sector, 0, 2, 72, histories.left, out);
+    let right = channel(sector, 1, 2, 72, histories.right, out);
+    let mono = histories.mono;
+    Histories { left, right, mono }
+}
+
+fn decode_mono(sector: &[u8], histories: Histories, out: &mut [i16]) -> Histories
+    requires { ⌜ (length (now sector) ≡ 2304) × (length (now out) ≡ 4032) ⌝ }
+    ensures { λ r. ⌜ record { number = 0; histories = r; out = now (out .exit) } ≡ acceptedOf (now (sector .entry)) false histories ⌝ }
+{
+    let left = histories.left;
+    let right = histories.right;
+    let mono = channel(sector, 0, 1, 144, histories.mono, out);
+    Histories { left, right, mono }
+}
+
 fn number_of(sector: &[u8], eight_bit: bool, out: &[i16]) -> u8
     ensures { λ r. ⌜ r ≡ numberOf (now (sector .entry)) «eight_bit» (now (out .entry)) ⌝ }
 {
@@ -153,7 +174,8 @@ fn number_of(sector: &[u8], eight_bit: bool, out: &[i16]) -> u8
     0
 }
 
-// The samples of a sector. The number is 14 if the sector or the buffer has another length, 13 for samples of 8 bits, and 12 if a header differs from its copy.
+// The samples of a sector. The number is 14 if the sector or the buffer has another length, 13 for samples of 8 bits, and 12 if a header differs
+// from its copy.
 pub fn decode(
     sector: &[u8],
     stereo: bool,
@@ -167,21 +189,17 @@ pub fn decode(
     if number != 0 {
         return Decoded { number, histories };
     }
-    let left = histories.left;
-    let right = histories.right;
-    let mono = histories.mono;
     if stereo {
-        let left = channel(sector, 0, 2, 72, left, out);
-        let right = channel(sector, 1, 2, 72, right, out);
+        let after = decode_stereo(sector, histories, out);
         return Decoded {
             number,
-            histories: Histories { left, right, mono },
+            histories: after,
         };
     }
-    let mono = channel(sector, 0, 1, 144, mono, out);
+    let after = decode_mono(sector, histories, out);
     Decoded {
         number,
-        histories: Histories { left, right, mono },
+        histories: after,
     }
 }
 

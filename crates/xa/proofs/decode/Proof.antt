@@ -1,6 +1,5 @@
-use mathlib.Core.Path.{refl}
 use borrow.Author.Needs.{needs}
-use Rattle.xa.proofs.Laws.{decoded-refused, decoded-sized, decoded-stereo, decoded-mono}
+use Rattle.xa.proofs.Laws.{number-sized, decoded-refused, decoded-accepted}
 use Rattle.xa.proofs.decode.Statement.{statement}
 use Rattle.xa.proofs.decode.Tie as tie
 
@@ -13,26 +12,29 @@ same-length c = search needs
 returns : tie.Need-returns
 returns c = search decoded-refused
 
-channel-requires : tie.Need-channel-requires
-channel-requires c κs = let a = c .before .before .before .before .before .before .before .before .before .args in let s = decoded-sized (a .sector .now) (a .stereo) (a .eight-bit) (a .histories) (a .out .now) (c .before .before .before .before .before .before .number-of .ensures) (c .before .before .before .before .before .if1 .left) in (s .bytes, search needs, search needs, refl, s .samples)
-
-channel-requires-2 : tie.Need-channel-requires-2
-channel-requires-2 c κs = let a = c .before .before .before .before .before .before .before .before .before .before .before .before .args in let s = decoded-sized (a .sector .now) (a .stereo) (a .eight-bit) (a .histories) (a .out .now) (c .before .before .before .before .before .before .before .before .before .number-of .ensures) (c .before .before .before .before .before .before .before .before .if1 .left) in (s .bytes, search needs, search needs, refl, search (s .samples, needs))
+decode-stereo-requires : tie.Need-decode-stereo-requires
+decode-stereo-requires c κs =
+    let d = c .before .before in
+    let a = d .before .before .before .before .args in
+    number-sized (a .sector .now) (a .out .now) (a .eight-bit) (d .before .number-of .ensures) (d .if1 .left)
 
 same-length-2 : tie.Need-same-length-2
 same-length-2 c = search needs
 
 returns-2 : tie.Need-returns-2
-returns-2 c = let a = c .before .before .before .before .before .before .before .before .before .before .before .before .before .before .args in decoded-stereo (a .sector .now) (a .stereo) (a .eight-bit) (a .histories) (a .out .now) (c .before .before .before .before .before .before .before .before .before .before .before .number-of .ensures) (c .before .before .before .before .before .before .before .before .before .before .if1 .left) (c .before .before .before .before .before .before .if2 .taken) (c .before .before .before .before .channel .ensures) (c .before .channel2 .ensures)
+returns-2 c = search decoded-accepted
 
-channel-requires-3 : tie.Need-channel-requires-3
-channel-requires-3 c κs = let a = c .before .before .before .before .before .before .before .before .before .args in let s = decoded-sized (a .sector .now) (a .stereo) (a .eight-bit) (a .histories) (a .out .now) (c .before .before .before .before .before .before .number-of .ensures) (c .before .before .before .before .before .if1 .left) in (s .bytes, search needs, search needs, refl, s .samples)
+decode-mono-requires : tie.Need-decode-mono-requires
+decode-mono-requires c κs =
+    let d = c .before .before in
+    let a = d .before .before .before .before .args in
+    number-sized (a .sector .now) (a .out .now) (a .eight-bit) (d .before .number-of .ensures) (d .if1 .left)
 
 same-length-3 : tie.Need-same-length-3
 same-length-3 c = search needs
 
 returns-3 : tie.Need-returns-3
-returns-3 c = let a = c .before .before .before .before .before .before .before .before .before .before .before .args in decoded-mono (a .sector .now) (a .stereo) (a .eight-bit) (a .histories) (a .out .now) (c .before .before .before .before .before .before .before .before .number-of .ensures) (c .before .before .before .before .before .before .before .if1 .left) (c .before .before .before .if2 .left) (c .before .channel3 .ensures)
+returns-3 c = search decoded-accepted
 
 pub decode-spec : {M : Type 1} → statement M
 decode-spec =
@@ -41,10 +43,9 @@ decode-spec =
     number-of-requires
     same-length
     returns
-    channel-requires
-    channel-requires-2
+    decode-stereo-requires
     same-length-2
     returns-2
-    channel-requires-3
+    decode-mono-requires
     same-length-3
     returns-3)

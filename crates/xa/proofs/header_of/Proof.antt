@@ -1,5 +1,5 @@
-use Rattle.xa.proofs.Laws.{header-parts}
 use borrow.Author.Needs.{needs}
+use Rattle.xa.proofs.Laws.{header-parts}
 use Rattle.xa.proofs.header_of.Statement.{statement}
 use Rattle.xa.proofs.header_of.Tie as tie
 

@@ -1,5 +1,5 @@
-use Rattle.xa.proofs.Laws.{nibble-even, nibble-odd}
 use borrow.Author.Needs.{needs}
+use Rattle.xa.proofs.Laws.{nibble-even, nibble-odd}
 use Rattle.xa.proofs.nibble.Statement.{statement}
 use Rattle.xa.proofs.nibble.Tie as tie
 

@@ -1,20 +1,25 @@
-use Prim.Native.Nat.{_-_, _≤_}
 use mathlib.Core.Path.{_≡_, refl}
+use Prim.Native.Nat.{_-_, _*_, _≤_}
 use native.Mathlib.Omega.{arith}
-use Rattle.fixed.proofs.Number.{passed, passed-in}
+use borrow.Author.Needs.{needs}
 use lib.ListN.{length}
 use mir.Syntax.{w16}
 use mir.Val.{toZ}
+use Rattle.fixed.proofs.Number.{passed, passed-in}
 use Rattle.xa.proofs.Laws.{Part, part-none, part-more, part-all, header-shift, header-filter, nibble-below, step-below}
-use borrow.Author.Needs.{needs}
 use Rattle.xa.proofs.unit.Statement.{statement}
 use Rattle.xa.proofs.unit.Tie as tie
 
 abbrev Inv-loop : tie.InvT-loop
-Inv-loop sector n out₀ at step header f0 f1 old₀ older₀ j₀ out old older j = (j ≤ 28) × (length out ≡ length out₀) × Part sector n header at step out₀ (record { old = toZ w16 old₀; older = toZ w16 older₀ }) out (record { old = toZ w16 old; older = toZ w16 older }) j
+Inv-loop sector n out₀ at step header f0 f1 old₀ older₀ j₀ out old older j =
+    (j ≤ 28) × (length out ≡ length out₀) × Part sector n header at step out₀ (record { old = toZ w16 old₀; older = toZ w16 older₀ }) out (record { old = toZ w16 old; older = toZ w16 older }) j
 
 abbrev μ-loop : tie.MeasureT-loop
 μ-loop sector n out₀ at step header f0 f1 old₀ older₀ j₀ out old older j = 28 - j
+
+within : (c : tie.After-sample Inv-loop μ-loop)
+    → c .before .before .before .loop .j * c .before .before .before .before .before .before .before .before .before .before .args .step ≤ 27 * c .before .before .before .before .before .before .before .before .before .before .args .step
+within c = step-below (c .before .before .before .loop .j) 27 (c .before .before .before .before .before .before .before .before .before .before .args .step) (omega arith)
 
 unit-header-requires : tie.Need-unit-header-requires Inv-loop μ-loop
 unit-header-requires c κs = search needs
@@ -35,16 +40,16 @@ sample-requires : tie.Need-sample-requires Inv-loop μ-loop
 sample-requires c κs = search (nibble-below, header-shift, passed, passed-in, needs)
 
 mul-x : tie.Need-mul-x Inv-loop μ-loop
-mul-x c = let m = step-below (c .before .before .before .loop .j) 27 (c .before .before .before .before .before .before .before .before .before .before .args .step) (omega arith) in record { fits = omega arith }
+mul-x c = record { fits = omega (arith, within c) }
 
 add-x : tie.Need-add-x Inv-loop μ-loop
-add-x c = let m = step-below (c .before .before .before .loop .j) 27 (c .before .before .before .before .before .before .before .before .before .before .args .step) (omega arith) in record { fits = omega arith }
+add-x c = record { fits = omega (arith, within c) }
 
 mul-x-2 : tie.Need-mul-x-2 Inv-loop μ-loop
-mul-x-2 c = let m = step-below (c .before .before .before .loop .j) 27 (c .before .before .before .before .before .before .before .before .before .before .args .step) (omega arith) in record { fits = omega arith }
+mul-x-2 c = record { fits = omega (arith, within c) }
 
 slice-set-from-x : tie.Need-slice-set-from-x Inv-loop μ-loop
-slice-set-from-x c = let m = step-below (c .before .before .before .loop .j) 27 (c .before .before .before .before .before .before .before .before .before .before .args .step) (omega arith) in omega arith
+slice-set-from-x c = omega (arith, within c)
 
 add-j : tie.Need-add-j Inv-loop μ-loop
 add-j c = search needs
@@ -53,7 +58,9 @@ loop-less : tie.Need-loop-less Inv-loop μ-loop
 loop-less c = search needs
 
 loop-again : tie.Need-loop-again Inv-loop μ-loop
-loop-again c = (omega arith, search needs, part-more _ _ (c .before .before .before .loop .inv .2) (c .before .before .loop-test .taken) (c .before .nibble .ensures) (search (passed, needs)))
+loop-again c =
+    let d = c .before .before in
+    (omega arith, search needs, part-more _ _ (d .before .loop .inv .2) (d .loop-test .taken) (c .before .nibble .ensures) (search (passed, needs)))
 
 same-length : tie.Need-same-length Inv-loop μ-loop
 same-length c = search needs

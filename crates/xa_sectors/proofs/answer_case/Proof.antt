@@ -1,8 +1,8 @@
 use mathlib.Core.Path.{sym}
 use Prim.Native.Nat.{_%_}
 use native.Mathlib.Omega.{arith}
-use lib.Seq.{length-take-le}
 use borrow.Author.Needs.{needs}
+use lib.Seq.{length-take-le}
 use Rattle.xa_sectors.proofs.answer_case.Statement.{statement}
 use Rattle.xa_sectors.proofs.answer_case.Tie as tie
 

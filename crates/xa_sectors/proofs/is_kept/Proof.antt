@@ -1,6 +1,6 @@
 use Prim.Native.Nat.{_-_, _≤_}
-use lib.ListN.{length}
 use borrow.Author.Needs.{needs}
+use lib.ListN.{length}
 use Rattle.xa_sectors.proofs.is_kept.Statement.{statement}
 use Rattle.xa_sectors.proofs.is_kept.Tie as tie
 
