@@ -41,7 +41,7 @@
 extern "C" {
 #endif
 
-#define TENONWHISK_VERSION "0.4.0"
+#define TENONWHISK_VERSION "0.5.0"
 
 /* The length of a state. */
 #define TENONWHISK_STATE_BYTES 2493
@@ -52,8 +52,8 @@ extern "C" {
 /* ---- numbers */
 
 /* What a call returns: TENONWHISK_DONE, or why it was refused. Where several reasons apply, it returns the lowest
- * number, except that TENONWHISK_UNDOCUMENTED goes before TENONWHISK_NOT_CARRIED. Bytes that are not a state do not
- * name an L, so for them it returns TENONWHISK_STATE. */
+ * number, except that TENONWHISK_UNDOCUMENTED goes before TENONWHISK_NOT_CARRIED, and that the three of XA sectors go
+ * the other way: 14, 13, 12. Bytes that are not a state do not name an L, so for them it returns TENONWHISK_STATE. */
 enum tenonwhisk_number {
     TENONWHISK_DONE = 0,
     TENONWHISK_MEMORY = 1,        /* RAM or marks do not have the lengths that the state's L asks for; or no such L */
@@ -67,6 +67,9 @@ enum tenonwhisk_number {
     TENONWHISK_BANK = 9,          /* a bank is damaged, or the entries handed in would make a damaged one */
     TENONWHISK_NO_ENTRY = 10,     /* no bank that was handed in has an entry with this number */
     TENONWHISK_UNDOCUMENTED = 11, /* a write sets a bit that nobody has documented */
+    TENONWHISK_XA_COPIES = 12,    /* an XA sector's header bytes differ from their copies */
+    TENONWHISK_XA_EIGHT_BIT = 13, /* 8-bit XA samples, which are not decoded */
+    TENONWHISK_XA_LENGTH = 14,    /* an XA sector, or the buffer for its samples, of another length */
     TENONWHISK_ROOM = 24,         /* the buffer is shorter than the bank to be written */
     TENONWHISK_BUFFERS = 25       /* the buffers of a run do not hold whole pairs, or have different lengths */
 };
@@ -102,6 +105,12 @@ static inline const char *tenonwhisk_words(uint8_t number)
     case TENONWHISK_UNDOCUMENTED:
         return "the value sets a bit that nobody has documented (bit 13 of a voice's +Ah; "
                "bits 15-8 of 18Ah, 18Eh, 192h, 196h, 19Ah; bits 15-4 and 0 of 1ACh)";
+    case TENONWHISK_XA_COPIES:
+        return "the XA sector is damaged: header bytes of a sound group differ from their copies";
+    case TENONWHISK_XA_EIGHT_BIT:
+        return "XA samples of 8 bits are not decoded, only those of 4 bits";
+    case TENONWHISK_XA_LENGTH:
+        return "an XA sector is 2,304 bytes, and its samples are 4,032";
     case TENONWHISK_ROOM:
         return "the buffer is shorter than the sound bank to be written";
     case TENONWHISK_BUFFERS:
@@ -340,6 +349,50 @@ struct tenonwhisk_bank_written tenonwhisk_bank_write(const uint16_t *kinds, size
                                                      size_t offsets_len, const uint32_t *counts, size_t counts_len,
                                                      const uint8_t *data, size_t data_len, uint8_t *out,
                                                      size_t out_len);
+
+/* ---- XA speech */
+
+/* An XA sector holds dialogue as CD-ROM XA ADPCM: 18 sound groups of 128 bytes, each with eight units of 28 samples of
+ * 4 bits. In a mono sector the units follow each other; in a stereo sector the even ones are left, the odd ones right.
+ * What stands around the 2,304 bytes on a disc (sync, subheader, checksums) is the host's. So is the rate, 37,800 or
+ * 18,900 Hz: nothing is resampled.
+ *
+ * These calls need no state. The two samples before a sector's first go in and come back by value, for left, right and
+ * mono each. A host keeps them for each stream that it decodes, from sector to sector. */
+
+/* The length of a sector, in bytes. */
+#define TENONWHISK_XA_SECTOR_BYTES 2304
+
+/* The samples of a sector, mono or stereo (then 2,016 pairs). */
+#define TENONWHISK_XA_SAMPLES 4032
+
+/* The last two samples of a channel. Any values are good. */
+struct tenonwhisk_xa_history {
+    int16_t old;   /* the last */
+    int16_t older; /* the one before it */
+};
+
+struct tenonwhisk_xa_histories {
+    struct tenonwhisk_xa_history left;
+    struct tenonwhisk_xa_history right;
+    struct tenonwhisk_xa_history mono;
+};
+
+/* Returns the histories before the first sector of a stream: all zero. */
+struct tenonwhisk_xa_histories tenonwhisk_xa_fresh(void);
+
+struct tenonwhisk_xa_decoded {
+    uint8_t number;
+    struct tenonwhisk_xa_histories histories; /* for the stream's next sector; as handed in if refused */
+};
+
+/* Decodes a sector into out, in the order in which it is heard; stereo samples are left, right, left, .. A mono sector
+ * leaves the histories of left and right as they are, a stereo sector that of mono. Numbers: 0; 14 if sector_len is not
+ * TENONWHISK_XA_SECTOR_BYTES or out_len is not TENONWHISK_XA_SAMPLES; 13 if eight_bit; 12 if, in any of the groups,
+ * bytes 0 to 3 differ from bytes 4 to 7, or bytes 12 to 15 from bytes 8 to 11. If refused, out stays as it was. */
+struct tenonwhisk_xa_decoded tenonwhisk_xa_decode(const uint8_t *sector, size_t sector_len, bool stereo, bool eight_bit,
+                                                  struct tenonwhisk_xa_histories histories, int16_t *out,
+                                                  size_t out_len);
 
 #ifdef __cplusplus
 }

@@ -1,5 +1,5 @@
 -- Laws of the XA definitions. Assumes nothing.
-use mathlib.Core.Path.{_≡_, refl, sym, ap, ap₂, _∙_}
+use mathlib.Core.Path.{_≡_, refl, sym, ap, _∙_}
 use mathlib.Core.Bool.{Bool, true, false, cond, not, _&&_}
 use mathlib.Core.List.{List, [], _∷_, _++_}
 use Prim.Native.Nat.{ℕ, zero, suc, _+_, _-_, _*_, _/_, _%_, _≤_, _<_}
@@ -7,7 +7,7 @@ use native.Mathlib.Numerals.{add-one}
 use native.Mathlib.Nat.{div-one, mul-le-mul-right}
 use native.Mathlib.Omega.{arith}
 use borrow.Author.Tests.{ne-eqb, eqb-true, not-true, not-false}
-use lib.ListN.{length, set, length-append, length-set}
+use lib.ListN.{length, set, length-append}
 use lib.IntN.{ℤ}
 use lib.Dec.{eqb}
 use Rattle.fixed.specs.Bits.{field}
@@ -61,7 +61,7 @@ pub nibble-below : (sector : List ℕ) (n j : ℕ) {t : ℕ} → t ≡ nibbleOf 
 unfolding nibbleOf
 nibble-below sector n j e = rw e (omega arith)
 
--- the place of sample j in a buffer, by its step
+-- for the place of a sample in a buffer: omega takes a product of two variables as it is
 pub step-below : (j k step : ℕ) → j ≤ k → j * step ≤ k * step
 step-below j k step h = mul-le-mul-right step h
 
@@ -104,7 +104,7 @@ unfolding nibblesOf
 nibbles-length sector n j zero = refl
 nibbles-length sector n j (suc k) = ap suc (nibbles-length sector n (suc j) k)
 
-pub unit-length : (sector : List ℕ) (n : ℕ) (h : History) → length (unitOf sector n h) ≡ 28
+unit-length : (sector : List ℕ) (n : ℕ) (h : History) → length (unitOf sector n h) ≡ 28
 unfolding unitOf
 unit-length sector n h = samples-length (headerOf (headerByte sector n)) (nibblesOf sector n 0 28) (h .old) (h .older) ∙ nibbles-length sector n 0 28
 
@@ -115,11 +115,6 @@ channel-length sector first step h (suc n) =
     let before = channelOf sector first step h n in
     let last = afterOf h before in
     length-append before (unitOf sector (first + n * step) last) ∙ rw (channel-length sector first step h n, unit-length sector (first + n * step) last) (omega arith)
-
-pub placed-length : (out : List ℤ) (at step : ℕ) (xs : List ℤ) → length (placedOf out at step xs) ≡ length out
-unfolding placedOf
-placed-length out at step [] = refl
-placed-length out at step (x ∷ xs) = placed-length (set out at x) (at + step) step xs ∙ length-set out at x
 
 placed-append : (out : List ℤ) (at step : ℕ) (xs ys : List ℤ) → placedOf (placedOf out at step xs) (at + length xs * step) step ys ≡ placedOf out at step (xs ++ ys)
 unfolding placedOf
@@ -194,8 +189,8 @@ module _ (sector : List ℕ) (out : List ℤ) where
       let b = eqb (length out) 4032 in
       (eqb-true (length sector) 2304 (and-first a b t), eqb-true (length out) 4032 (and-rest a b t))
 
-  pub sized : not (isSized sector out) ≡ false → length sector ≡ 2304
-  sized t = sized-by (not-false (isSized sector out) t) .0
+  pub sized-sector : not (isSized sector out) ≡ false → length sector ≡ 2304
+  sized-sector t = sized-by (not-false (isSized sector out) t) .0
 
   pub number-sized : (eight : Bool) {number : ℕ} → number ≡ numberOf sector eight out → number ≡ 0 → (length sector ≡ 2304) × (length out ≡ 4032)
   unfolding numberOf

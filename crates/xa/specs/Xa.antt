@@ -62,7 +62,7 @@ unfoldable pub afterOf : History → List ℤ → History
 afterOf h [] = h
 afterOf h (x ∷ xs) = afterOf (record { old = x; older = h .old }) xs
 
--- the samples of the first n of the units `first`, `first + step`, ..: the history "carries across groups"
+-- the samples of the first n of the units `first`, `first + step`, .., each unit after the history that the one before it leaves
 unfoldable pub channelOf : List ℕ → (first step : ℕ) → History → (n : ℕ) → List ℤ
 channelOf sector first step h zero = []
 channelOf sector first step h (suc n) =
@@ -109,6 +109,7 @@ pub record Decoded : Type 0 where
   pub histories : Histories
   pub out : List ℤ
 
+-- each history that it leaves is for the next sector: it "carries across groups and sectors"
 unfoldable pub acceptedOf : List ℕ → (stereo : Bool) → Histories → Decoded
 acceptedOf sector true hs =
     let left = leftOf sector (hs .left) in

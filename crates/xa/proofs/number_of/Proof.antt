@@ -1,5 +1,5 @@
 use borrow.Author.Needs.{needs}
-use Rattle.xa.proofs.Laws.{number-14, number-13, number-0, number-12, sized}
+use Rattle.xa.proofs.Laws.{number-14, number-13, number-0, number-12, sized-sector}
 use Rattle.xa.proofs.number_of.Statement.{statement}
 use Rattle.xa.proofs.number_of.Tie as tie
 
@@ -10,7 +10,7 @@ returns-2 : tie.Need-returns-2
 returns-2 c = search number-13
 
 are-copied-requires : tie.Need-are-copied-requires
-are-copied-requires c κs = let a = c .before .before .before .args in sized (a .sector .now) (a .out .now) (c .before .if1 .left)
+are-copied-requires c κs = let a = c .before .before .before .args in sized-sector (a .sector .now) (a .out .now) (c .before .if1 .left)
 
 returns-3 : tie.Need-returns-3
 returns-3 c = search number-12
