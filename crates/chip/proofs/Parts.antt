@@ -1,12 +1,9 @@
 -- The state's parts, as the code finds them. Assumes nothing.
-use mathlib.Core.Path.{_≡_, refl, sym, subst, _∙_}
+use mathlib.Core.Path.{_≡_, sym, _∙_}
 use mathlib.Core.Bool.{Bool, true, false, _&&_, _||_, not, and-true}
-use mathlib.Core.List.{List}
-use Prim.Native.Nat.{ℕ, zero, suc, _+_, _-_, _%_, _≤_}
-use native.Mathlib.Omega.{arith}
+use Prim.Native.Nat.{ℕ, _-_, _%_}
 use borrow.Author.Tests.{not-true, not-false}
 use lib.Dec.{eqb, leb, ltb}
-use lib.ListN.{getD}
 use Rattle.fixed.specs.Bits.{bit}
 use Rattle.envelope.specs.Adsr.{active}
 use Rattle.soundram.specs.declared.ByteAddress.{ByteAddress}
@@ -14,7 +11,6 @@ use Rattle.soundram.specs.Address.{addressOf, halfwordOf, Sized}
 use Rattle.registers.specs.Map.{registerAt}
 use Rattle.voice.specs.declared.Voice.{Voice}
 use Rattle.voice.specs.Voice.{fresh}
-use Rattle.voices.specs.Voices.{pastEnd}
 use Rattle.chip.specs.declared.State.{State}
 use Rattle.chip.specs.State.{madeOf, freshOf, allOf, sizeOk, voiceOk, everyOk, baseOf, stateOk, watchOf}
 use Rattle.chip.proofs.Tests.{sized}
@@ -29,18 +25,6 @@ pub voice-tested : (size : ℕ) (v : Voice) {r : Bool} → r ≡ active (v .enve
     && (leb (v .position .index) 27 && (eqb (v .source .address .0 % 8) 0 && ltb (v .source .address .0) size)))))) ≡ voiceOk size v
 unfolding voiceOk allOf
 voice-tested size v e = rw (e, and-true (ltb (v .source .address .0) size))
-
-pub every-none : (size : ℕ) (vs : List Voice) → true ≡ everyOk size vs zero
-unfolding everyOk
-every-none size vs = refl
-
-pub every-more : (size : ℕ) (vs : List Voice) (n : ℕ) {a b : Bool} → a ≡ everyOk size vs n → b ≡ voiceOk size (getD vs n pastEnd) → (a && b) ≡ everyOk size vs (n + 1)
-unfolding everyOk
-every-more size vs n e f = let q : n + 1 ≡ suc n = omega arith in rw (q, e, f)
-
--- a loop that counted to its end has done as many rounds as it has
-pub to-end : {A : Type 0} (f : ℕ → A) (n k : ℕ) {a : A} → a ≡ f n → n ≤ k → k ≤ n → a ≡ f k
-to-end f n k {a} e l h = let q : n ≡ k = omega arith in subst (λ (i : ℕ). a ≡ f i) q e
 
 -- the tests of a state, v that of its voices, b its reverb's base
 pub tested-size : (s : State) {z : Bool} → z ≡ sizeOk (s .choices .size) → not z ≡ true → false ≡ stateOk s

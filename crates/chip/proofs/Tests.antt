@@ -1,14 +1,13 @@
 -- A state passes the tests of number 2 exactly when it is in range. Assumes nothing.
-use mathlib.Core.Path.{_≡_, refl, sym, subst}
+use mathlib.Core.Path.{_≡_, refl}
 use mathlib.Core.Bool.{Bool, true, false, _||_, not, false≢true}
 use mathlib.Core.List.{List, [], _∷_}
 use Prim.Native.Nat.{ℕ, zero, suc, _≤_, _<_}
-use native.Mathlib.Decide.{ℕ-discrete}
 use native.Mathlib.Omega.{arith}
 use lib.Dec.{eqb, leb}
 use lib.ListN.{getD}
 use borrow.Author.Tests.{ltb-true, leb-true, eqb-true, lt-ltb, le-leb, eq-eqb}
-use Rattle.fixed.proofs.Bools.{and-first, and-rest}
+use Rattle.fixed.proofs.Bools.{and-first, and-rest, all-at, all-true}
 use Rattle.soundram.specs.Address.{Sized}
 use Rattle.voice.specs.declared.Voice.{Voice}
 use Rattle.voice.specs.Range as voice
@@ -80,17 +79,10 @@ voice-ok size v r =
     (more (le-leb _ _ (r .index)) (more (eq-eqb _ _ (r .multiple)) (more (lt-ltb _ _ (r .below)) none)))))))
 
 every-at : (size : ℕ) (vs : List Voice) (n k : ℕ) → everyOk size vs n ≡ true → k < n → voice.InRange size (getD vs k pastEnd)
-unfolding everyOk
-every-at size vs zero k e h = absurd (omega arith)
-every-at size vs (suc n) k e h = elim (ℕ-discrete k n) [
-  | yes q ↦ subst (λ (i : ℕ). voice.InRange size (getD vs i pastEnd)) (sym q) (voice-in size _ (and-rest (everyOk size vs n) _ e))
-  | no q ↦ every-at size vs n k (and-first (everyOk size vs n) _ e) (omega arith)
-]
+every-at size vs n k e h = voice-in size _ (all-at (λ i. voiceOk size (getD vs i pastEnd)) n k e h)
 
 at-every : (size : ℕ) (vs : List Voice) (n : ℕ) → ((k : ℕ) → k < n → voice.InRange size (getD vs k pastEnd)) → everyOk size vs n ≡ true
-unfolding everyOk
-at-every size vs zero f = refl
-at-every size vs (suc n) f = rw (at-every size vs n (λ k h. f k (omega arith))) (voice-ok size _ (f n (omega arith)))
+at-every size vs n f = all-true (λ k. voiceOk size (getD vs k pastEnd)) n (λ k h. voice-ok size _ (f k h))
 
 -- ---- the state
 

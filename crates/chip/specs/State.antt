@@ -1,7 +1,7 @@
 -- The state: fresh, and in range. Assumes nothing.
 use mathlib.Core.Bool.{Bool, true, false, _&&_, _||_, not}
 use mathlib.Core.List.{List, [], _∷_}
-use Prim.Native.Nat.{ℕ, zero, suc, _-_, _%_}
+use Prim.Native.Nat.{ℕ, _-_, _%_}
 use lib.Dec.{eqb, leb, ltb}
 use lib.ListN.{getD, replicate, set}
 use lib.IntN.{pos}
@@ -10,6 +10,7 @@ use Rattle.soundram.specs.declared.ByteAddress.{ByteAddress}
 use Rattle.soundram.specs.declared.Watch.{Watch}
 use Rattle.soundram.specs.Address.{addressOf, halfwordOf}
 use Rattle.fixed.specs.Bits.{bit}
+use Rattle.fixed.specs.Tests.{allBelow}
 use Rattle.registers.specs.Map.{registerAt}
 use Rattle.voice.specs.declared.Voice.{Voice}
 use Rattle.voice.specs.Voice.{fresh}
@@ -81,9 +82,8 @@ voiceOk size v =
     ∷ [])
 
 -- the first n of the voices
-unfoldable pub everyOk : ℕ → List Voice → ℕ → Bool
-everyOk size vs zero = true
-everyOk size vs (suc n) = everyOk size vs n && voiceOk size (getD vs n pastEnd)
+abbrev pub everyOk : ℕ → List Voice → ℕ → Bool
+everyOk size vs n = allBelow n (λ k. voiceOk size (getD vs k pastEnd))
 
 -- the reverb's base, "1A2h reverb base"
 abbrev pub baseAt : ℕ → List ℕ → ByteAddress

@@ -1,7 +1,7 @@
 -- What the code reads and tests, as the definitions have it. Assumes nothing.
 use mathlib.Core.Path.{_≡_, refl, sym, ap, _∙_}
-use mathlib.Core.Bool.{Bool, true, false, _&&_, and-assoc, and-true}
-use mathlib.Core.List.{List, [], _∷_, _++_}
+use mathlib.Core.Bool.{Bool, true, false, _&&_, and-true}
+use mathlib.Core.List.{List, []}
 use Prim.Native.Nat.{ℕ, suc, _+_, _*_, _≤_, _<_}
 use native.Mathlib.Omega.{arith}
 use borrow.Author.Tests.{eq-eqb, ne-eqb, eqb-true}
@@ -10,6 +10,7 @@ use lib.IntN.{ℤ}
 use lib.ListN.{length, getD, take, set}
 use lib.Seq.{take-all, take-suc-set}
 use Rattle.fixed.specs.Signed.{signed}
+use Rattle.fixed.specs.Tests.{allBelow}
 use Rattle.fixed.proofs.Bools.{and-first}
 use Rattle.little_endian.specs.Bytes.{each, listOf, halfAt, wordAt}
 use Rattle.envelope.specs.declared.Phase.{Phase}
@@ -23,7 +24,6 @@ use Rattle.chip.specs.declared.Control.{Control}
 use Rattle.chip.specs.declared.Reverb.{Reverb}
 use Rattle.chip.specs.declared.State.{State}
 use Rattle.chip.specs.State.{freshOf, allOf}
-use Rattle.chip.proofs.Parts.{to-end}
 use Rattle.image.specs.Image.{flagAt, isFlag, phaseOf, envelopeFrom, sourceFrom, positionFrom, playingFrom, voiceFrom, isVoiceAt, noiseFrom, controlFrom, reverbFrom, tag, stateOf, isImage, loadedOf}
 
 -- ---- a list that a loop fills
@@ -39,25 +39,6 @@ module _ {A : Type 0} (f : ℕ → A) where
 
   pub filled-all : (n k : ℕ) {xs : List A} → length xs ≡ k → take n xs ≡ listOf f n → n ≤ k → k ≤ n → xs ≡ listOf f k
   filled-all n k {xs} l e h g = let q : n ≡ k = omega arith in sym (take-all n xs (omega arith)) ∙ e ∙ ap (listOf f) q
-
--- ---- tests, all of them
-
-pub all-snoc : (bs : List Bool) (b : Bool) → (allOf bs && b) ≡ allOf (bs ++ b ∷ [])
-unfolding allOf
-all-snoc [] b = sym (and-true b)
-all-snoc (a ∷ bs) b = and-assoc a (allOf bs) b ∙ ap (λ (c : Bool). a && c) (all-snoc bs b)
-
-module _ (f : ℕ → Bool) where
-  pub all-none : true ≡ allOf (listOf f 0)
-  unfolding each allOf
-  all-none = refl
-
-  pub all-more : (n : ℕ) {a b : Bool} → a ≡ allOf (listOf f n) → b ≡ f n → (a && b) ≡ allOf (listOf f (n + 1))
-  unfolding each
-  all-more n e g = let q : n + 1 ≡ suc n = omega arith in rw (q, e, g) (all-snoc (listOf f n) (f n))
-
-  pub all-tested : (n k : ℕ) {a : Bool} → a ≡ allOf (listOf f n) → n ≤ k → k ≤ n → a ≡ allOf (listOf f k)
-  all-tested n k e h g = to-end (λ (i : ℕ). allOf (listOf f i)) n k e h g
 
 -- ---- what the code reads
 
@@ -116,7 +97,7 @@ pub voice-tested : (bs : List ℕ) (at : ℕ) {a b : Bool} → a ≡ isFlag bs (
 unfolding isVoiceAt
 voice-tested bs at e f = rw (e, f)
 
-pub image-as : (bs : List ℕ) {t : ℕ} {v a b d : Bool} → length bs ≡ 2493 → t ≡ wordAt bs 0 → v ≡ allOf (listOf (λ n. isVoiceAt bs (520 + n * 81)) 24)
+pub image-as : (bs : List ℕ) {t : ℕ} {v a b d : Bool} → length bs ≡ 2493 → t ≡ wordAt bs 0 → v ≡ allBelow 24 (λ n. isVoiceAt bs (520 + n * 81))
     → a ≡ isFlag bs 2472 → b ≡ isFlag bs 2473 → d ≡ isFlag bs 2480 → (eqb t tag && (v && (a && (b && d)))) ≡ isImage bs
 unfolding isImage allOf
 image-as bs l et ev ea eb ed = rw (eq-eqb (length bs) 2493 l, et, ev, ea, eb, ed, and-true)

@@ -6,6 +6,7 @@ use lib.Dec.{eqb, leb}
 use lib.ListN.{length, getD}
 use lib.IntN.{pos}
 use Rattle.fixed.specs.Signed.{signed, bitsOf}
+use Rattle.fixed.specs.Tests.{allBelow}
 use Rattle.little_endian.specs.Bytes.{each, listOf, halfBytes, wordBytes, halfAt, wordAt}
 use Rattle.envelope.specs.declared.Phase.{Phase}
 use Rattle.envelope.specs.declared.Phase.the-variants.{Idle, Attack, Decay, Sustain, Release, Off}
@@ -170,7 +171,7 @@ isImage bs =
     allOf
     (eqb (length bs) imageLength
     ∷ eqb (wordAt bs 0) tag
-    ∷ allOf (listOf (λ n. isVoiceAt bs (520 + n * 81)) 24)
+    ∷ allBelow 24 (λ n. isVoiceAt bs (520 + n * 81))
     ∷ isFlag bs 2472
     ∷ isFlag bs 2473
     ∷ isFlag bs 2480

@@ -3,7 +3,7 @@ ghost use mathlib.Core.Path.{_≡_};
 ghost use Prim.Native.Nat.{_+_, _*_, _≤_};
 ghost use lib.ListN.{length};
 ghost use Rattle.fixed.specs.Signed.{signed};
-ghost use Rattle.chip.specs.State.{allOf};
+ghost use Rattle.fixed.specs.Tests.{allBelow};
 ghost use Rattle.little_endian.specs.Bytes.{listOf, halfAt};
 ghost use Rattle.image.specs.Image.{flagAt, isFlag as isFlagAt, phaseOf, envelopeFrom, sourceFrom, positionFrom, playingFrom, voiceFrom, isVoiceAt, noiseFrom, controlFrom, reverbFrom, imageLength, stateOf, isImage as isImageOf, loadedOf};
 use chip::Choices;
@@ -247,7 +247,7 @@ fn is_voice(bytes: &[u8], at: usize) -> bool
 
 fn are_voices(bytes: &[u8], at: usize) -> bool
     requires { ⌜ at + 1944 ≤ length (now bytes) ⌝ }
-    ensures { λ r. ⌜ r ≡ allOf (listOf (λ n. isVoiceAt (now (bytes .entry)) (at + n * 81)) 24) ⌝ }
+    ensures { λ r. ⌜ r ≡ allBelow 24 (λ n. isVoiceAt (now (bytes .entry)) (at + n * 81)) ⌝ }
 {
     let mut ok = true;
     for n in 0..24usize {

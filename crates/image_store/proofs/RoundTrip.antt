@@ -12,6 +12,7 @@ use lib.Seq.{take-suc, take-all}
 use Rattle.fixed.specs.Range.{In}
 use Rattle.fixed.specs.Signed.{signed, bitsOf}
 use Rattle.fixed.proofs.TwosComplement.{signed-bits}
+use Rattle.fixed.proofs.Bools.{all-true}
 use Rattle.envelope.specs.declared.Phase.{Phase}
 use Rattle.envelope.specs.declared.Phase.the-variants.{Idle, Attack, Decay, Sustain, Release, Off}
 use Rattle.envelope.specs.declared.Envelope.{Envelope}
@@ -29,7 +30,6 @@ use Rattle.little_endian.specs.Bytes.{each, listOf, halfBytes, wordBytes, halfA
 use Rattle.little_endian.proofs.Stands.{Has, all, first, rest, part, one, half-read, word-read, each-read}
 use Rattle.image.specs.Image.{flagByte, flagAt, isFlag, phaseByte, phaseOf, envelopeBytes, sourceBytes, positionBytes, playingBytes, voiceBytes, envelopeFrom, sourceFrom, positionFrom, playingFrom, voiceFrom, isVoiceAt, noiseBytes, controlBytes, reverbBytes, noiseFrom, controlFrom, reverbFrom, tag, imageOf, stateOf, isImage}
 use Rattle.image_store.specs.Written.{Samples, Voices, Typed}
-use Rattle.image.proofs.Laws.{all-snoc}
 use Rattle.image_store.proofs.Puts.{playing-length, voice-length, registersBytes, voicesBytes, frontBytes, restBytes, registers-length, front-length, two-parts, image-length}
 
 -- ---- numbers
@@ -71,11 +71,6 @@ list-of d xs g (suc n) h e = rw (list-of d xs g n (omega arith) (λ k b. e k (om
 
 list-read : {A : Type 0} (d : A) (xs : List A) (g : ℕ → A) (n : ℕ) → length xs ≡ n → ((k : ℕ) → k < n → g k ≡ getD xs k d) → listOf g n ≡ xs
 list-read d xs g n l e = list-of d xs g n (omega arith) e ∙ take-all n xs (omega arith)
-
-all-true : (f : ℕ → Bool) (n : ℕ) → ((k : ℕ) → k < n → f k ≡ true) → allOf (listOf f n) ≡ true
-unfolding each allOf
-all-true f zero h = refl
-all-true f (suc n) h = sym (all-snoc (listOf f n) (f n)) ∙ rw (all-true f n (λ k b. h k (omega arith)), h n (omega arith))
 
 -- ---- the parts of a state
 

@@ -1,6 +1,6 @@
 -- Laws of the XA definitions. Assumes nothing.
 use mathlib.Core.Path.{_≡_, refl, sym, ap, _∙_}
-use mathlib.Core.Bool.{Bool, true, false, cond, not, _&&_}
+use mathlib.Core.Bool.{Bool, true, false, cond, not}
 use mathlib.Core.List.{List, [], _∷_, _++_}
 use Prim.Native.Nat.{ℕ, zero, suc, _+_, _-_, _*_, _/_, _%_, _≤_, _<_}
 use native.Mathlib.Numerals.{add-one}
@@ -17,21 +17,7 @@ use Rattle.adpcm.specs.Adpcm.{actsAs, sampleOf, samplesOf}
 use Rattle.adpcm.proofs.Laws.{acts-most}
 use Rattle.xa.specs.declared.History.{History}
 use Rattle.xa.specs.declared.Histories.{Histories}
-use Rattle.xa.specs.Xa.{byteOf, allBelow, areCopied, headerByte, headerOf, nibbleOf, nibblesOf, unitOf, afterOf, channelOf, monoOf, leftOf, rightOf, alternateOf, placedOf, isSized, numberOf, acceptedOf, decodedOf}
-
--- ---- a test at each number below a limit
-
-module _ (f : ℕ → Bool) where
-  pub all-none : true ≡ allBelow 0 f
-  unfolding allBelow
-  all-none = refl
-
-  pub all-more : (n : ℕ) {a b : Bool} → a ≡ allBelow n f → b ≡ f n → (a && b) ≡ allBelow (n + 1) f
-  unfolding allBelow
-  all-more n e g = rw (add-one n, e, g)
-
-  pub all-tested : (n k : ℕ) {a : Bool} → a ≡ allBelow n f → n ≤ k → k ≤ n → a ≡ allBelow k f
-  all-tested n k e h g = let q : n ≡ k = omega arith in e ∙ ap (λ (i : ℕ). allBelow i f) q
+use Rattle.xa.specs.Xa.{byteOf, areCopied, headerByte, headerOf, nibbleOf, nibblesOf, unitOf, afterOf, channelOf, monoOf, leftOf, rightOf, alternateOf, placedOf, isSized, numberOf, acceptedOf, decodedOf}
 
 -- ---- the header
 

@@ -6,6 +6,7 @@ use lib.Dec.{eqb}
 use lib.ListN.{length, getD, set}
 use lib.IntN.{ℤ, pos}
 use Rattle.fixed.specs.Bits.{field}
+use Rattle.fixed.specs.Tests.{allBelow}
 use Rattle.adpcm.specs.declared.Header.{Header}
 use Rattle.adpcm.specs.Adpcm.{actsAs, samplesOf}
 use Rattle.xa.specs.declared.History.{History}
@@ -16,11 +17,6 @@ use Rattle.xa.specs.declared.Histories.{Histories}
 -- byte i of group g
 abbrev pub byteOf : List ℕ → ℕ → ℕ → ℕ
 byteOf sector g i = getD sector (g * 128 + i) 0
-
--- a test passes at each number below n
-unfoldable pub allBelow : ℕ → (ℕ → Bool) → Bool
-allBelow zero f = true
-allBelow (suc n) f = allBelow n f && f n
 
 -- "bytes 0..3 repeat 4..7, 12..15 repeat 8..11"
 abbrev pub isCopied : List ℕ → ℕ → ℕ → Bool

@@ -2,8 +2,8 @@ use mathlib.Core.Path.{_≡_}
 use Prim.Native.Nat.{_-_, _≤_}
 use native.Mathlib.Omega.{arith}
 use borrow.Author.Needs.{needs}
+use Rattle.fixed.proofs.Bools.{all-none, all-more, all-tested}
 use Rattle.chip.specs.State.{everyOk}
-use Rattle.chip.proofs.Parts.{every-none, every-more, to-end}
 use Rattle.chip_range.proofs.every_ok.Statement.{statement}
 use Rattle.chip_range.proofs.every_ok.Tie as tie
 
@@ -14,7 +14,7 @@ abbrev μ-loop : tie.MeasureT-loop
 μ-loop size voices ok₀ n₀ ok n = 24 - n
 
 loop-holds : tie.Need-loop-holds Inv-loop μ-loop
-loop-holds c = (omega arith, every-none _ _)
+loop-holds c = (omega arith, all-none _)
 
 mul-v : tie.Need-mul-v Inv-loop μ-loop
 mul-v c = search needs
@@ -32,10 +32,10 @@ loop-less : tie.Need-loop-less Inv-loop μ-loop
 loop-less c = search needs
 
 loop-again : tie.Need-loop-again Inv-loop μ-loop
-loop-again c = (search needs, every-more _ _ _ (c .before .before .before .loop .inv .1) (c .voice-ok .ensures))
+loop-again c = (search needs, all-more _ _ (c .before .before .before .loop .inv .1) (c .voice-ok .ensures))
 
 returns : tie.Need-returns Inv-loop μ-loop
-returns c = let v = c .before .loop .inv in to-end (everyOk _ _) _ _ (v .1) (v .0) (c .loop-test .left)
+returns c = let v = c .before .loop .inv in all-tested _ _ _ (v .1) (v .0) (c .loop-test .left)
 
 pub every-ok-spec : {M : Type 1} → statement M
 every-ok-spec =

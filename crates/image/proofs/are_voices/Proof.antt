@@ -1,15 +1,14 @@
 use mathlib.Core.Path.{_≡_}
 use Prim.Native.Nat.{_+_, _*_, _-_, _≤_}
 use borrow.Author.Needs.{needs}
-use Rattle.chip.specs.State.{allOf}
-use Rattle.little_endian.specs.Bytes.{listOf}
+use Rattle.fixed.specs.Tests.{allBelow}
+use Rattle.fixed.proofs.Bools.{all-none, all-more, all-tested}
 use Rattle.image.specs.Image.{isVoiceAt}
-use Rattle.image.proofs.Laws.{all-none, all-more, all-tested}
 use Rattle.image.proofs.are_voices.Statement.{statement}
 use Rattle.image.proofs.are_voices.Tie as tie
 
 abbrev Inv-loop : tie.InvT-loop
-Inv-loop bytes at ok₀ n₀ ok n = (n ≤ 24) × (ok ≡ allOf (listOf (λ k. isVoiceAt bytes (at + k * 81)) n))
+Inv-loop bytes at ok₀ n₀ ok n = (n ≤ 24) × (ok ≡ allBelow n (λ k. isVoiceAt bytes (at + k * 81)))
 
 abbrev μ-loop : tie.MeasureT-loop
 μ-loop bytes at ok₀ n₀ ok n = 24 - n

@@ -1,8 +1,9 @@
 use mathlib.Core.Path.{_≡_, refl}
 use Prim.Native.Nat.{_-_, _≤_}
 use borrow.Author.Needs.{needs}
-use Rattle.xa.specs.Xa.{allBelow, isCopied}
-use Rattle.xa.proofs.Laws.{all-none, all-more, all-tested}
+use Rattle.fixed.specs.Tests.{allBelow}
+use Rattle.fixed.proofs.Bools.{all-none, all-more, all-tested}
+use Rattle.xa.specs.Xa.{isCopied}
 use Rattle.xa.proofs.is_group_copied.Statement.{statement}
 use Rattle.xa.proofs.is_group_copied.Tie as tie
 

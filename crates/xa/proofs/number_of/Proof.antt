@@ -1,4 +1,3 @@
-use borrow.Author.Needs.{needs}
 use Rattle.xa.proofs.Laws.{number-14, number-13, number-0, number-12, sized-sector}
 use Rattle.xa.proofs.number_of.Statement.{statement}
 use Rattle.xa.proofs.number_of.Tie as tie
