@@ -3,7 +3,7 @@ use Prim.Native.Nat.{_-_, _≤_}
 use native.Mathlib.Omega.{arith}
 use borrow.Author.Needs.{needs}
 use lib.ListN.{length}
-use Rattle.chip.proofs.Parts.{to-end}
+use Rattle.fixed.proofs.Loops.{to-end}
 use Rattle.ports.specs.Registers.{stopFirst}
 use Rattle.ports.proofs.Parts.{stop-none, stop-more}
 use Rattle.ports.proofs.stop_all.Statement.{statement}

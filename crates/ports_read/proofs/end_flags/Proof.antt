@@ -2,7 +2,7 @@ use mathlib.Core.Path.{_≡_}
 use Prim.Native.Nat.{_-_, _≤_}
 use native.Mathlib.Omega.{arith}
 use borrow.Author.Needs.{needs}
-use Rattle.chip.proofs.Parts.{to-end}
+use Rattle.fixed.proofs.Loops.{to-end}
 use Rattle.ports.specs.Registers.{endFlags}
 use Rattle.ports_read.proofs.Values.{flags-none, flags-more, flags-fit}
 use Rattle.ports_read.proofs.end_flags.Statement.{statement}
