@@ -8,9 +8,9 @@
  *
  * A slice is a pointer and its number of elements, not bytes. The slices of one call must not overlap, except the two
  * banks of a lookup. No pointer may be NULL, not even with length 0. The library checks everything else: wrong lengths,
- * damaged states and banks, and bad arguments are refused. A refused call returns its number and zero results, and
- * leaves every lent byte as it was. There is one exception: for a size other than the two, tenonwhisk_make returns 1
- * and still writes the state for 65,536.
+ * damaged states, banks and sectors, and bad arguments are refused. A refused call returns its number and zero results,
+ * and leaves every lent byte as it was. There are two exceptions: for a size other than the two, tenonwhisk_make
+ * returns 1 and still writes the state for 65,536; and tenonwhisk_xa_decode hands the histories back.
  *
  * Saved states. A state is plain bytes: copy it, save it, send it elsewhere, with RAM and marks beside it. Its first
  * four bytes name its layout (docs/STATE.md). A library with another layout refuses it with 2; it never

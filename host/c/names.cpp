@@ -1,4 +1,5 @@
-// The interface in C++: types without the keyword struct, a run without CD, a refusal's words, a sound of a bank.
+// The interface in C++: types without the keyword struct, a run without CD, a refusal's words, a sound of a bank, a
+// sector of speech.
 #include "tenonwhisk.h"
 
 #include <cstring>
@@ -34,7 +35,23 @@ static bool bank()
            sound == title + 32 && length == 16;
 }
 
+static bool speech()
+{
+    static uint8_t sector[TENONWHISK_XA_SECTOR_BYTES];
+    static int16_t out[TENONWHISK_XA_SAMPLES];
+    sector[16] = 0x7F;
+    tenonwhisk_xa_histories histories = tenonwhisk_xa_fresh();
+    tenonwhisk_xa_decoded decoded =
+        tenonwhisk_xa_decode(sector, sizeof sector, true, false, histories, out, TENONWHISK_XA_SAMPLES);
+    tenonwhisk_xa_history left = decoded.histories.left;
+    sector[0] = 1;
+    tenonwhisk_xa_decoded refused =
+        tenonwhisk_xa_decode(sector, sizeof sector, true, false, histories, out, TENONWHISK_XA_SAMPLES);
+    return decoded.number == TENONWHISK_DONE && out[0] == -0x1000 && out[1] == 0x7000 && left.old == 0 &&
+           left.older == 0 && refused.number == TENONWHISK_XA_COPIES;
+}
+
 int main()
 {
-    return chip() && bank() ? 0 : 1;
+    return chip() && bank() && speech() ? 0 : 1;
 }

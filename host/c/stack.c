@@ -14,7 +14,8 @@
 #include <string.h>
 
 enum { STACK_WORDS = 1 << 17, STACK_BYTES = STACK_WORDS * sizeof(uint32_t), ALIGNMENT = 4096 };
-enum { MAKE = CALLS, CALLS_ON_STATES, BANK_FIND = CALLS_ON_STATES, BANK_CHECK, BANK_ENTRY, BANK_WRITE, ALL_CALLS };
+enum { MAKE = CALLS, CALLS_ON_STATES };
+enum { BANK_FIND = CALLS_ON_STATES, BANK_CHECK, BANK_ENTRY, BANK_WRITE, XA_FRESH, XA_DECODE, ALL_CALLS };
 
 static uint32_t *stack;
 static size_t largest[ALL_CALLS];
@@ -87,7 +88,8 @@ static struct outcome run_make(const struct lent *lent)
 
 static const char *name_of(int which)
 {
-    static const char *const others[] = {"make", "bank_find", "bank_check", "bank_entry", "bank_write"};
+    static const char *const others[] = {"make",       "bank_find", "bank_check", "bank_entry",
+                                         "bank_write", "xa_fresh",  "xa_decode"};
     return which < CALLS ? calls[which].name : others[which - CALLS];
 }
 
@@ -232,7 +234,7 @@ static struct outcome run_bank_write(const struct lent *lent)
     return (struct outcome){written.number, true};
 }
 
-static void measure_bank(int which, struct outcome (*run)(const struct lent *lent), uint8_t number)
+static void measure_stateless(int which, struct outcome (*run)(const struct lent *lent), uint8_t number)
 {
     struct job job = {.run = run};
     measure_job(which, &job);
@@ -248,20 +250,63 @@ static void measure_banks(void)
         bank.offsets[n] = n - 1;
     }
     bank.length = sizeof bank.bytes - 1;
-    measure_bank(BANK_WRITE, run_bank_write, 24);
+    measure_stateless(BANK_WRITE, run_bank_write, 24);
     bank.length = sizeof bank.bytes;
-    measure_bank(BANK_WRITE, run_bank_write, 0);
-    measure_bank(BANK_FIND, run_bank_find, 0);
-    measure_bank(BANK_CHECK, run_bank_check, TENONWHISK_BANK_GOOD);
-    measure_bank(BANK_ENTRY, run_bank_entry, 0);
+    measure_stateless(BANK_WRITE, run_bank_write, 0);
+    measure_stateless(BANK_FIND, run_bank_find, 0);
+    measure_stateless(BANK_CHECK, run_bank_check, TENONWHISK_BANK_GOOD);
+    measure_stateless(BANK_ENTRY, run_bank_entry, 0);
     bank.counts[ENTRIES - 1] = 1;
-    measure_bank(BANK_WRITE, run_bank_write, 9);
+    measure_stateless(BANK_WRITE, run_bank_write, 9);
     bank.length = 2 + 10 * ENTRIES;
-    measure_bank(BANK_FIND, run_bank_find, 9);
-    measure_bank(BANK_CHECK, run_bank_check, TENONWHISK_BANK_AT_ENTRY);
+    measure_stateless(BANK_FIND, run_bank_find, 9);
+    measure_stateless(BANK_CHECK, run_bank_check, TENONWHISK_BANK_AT_ENTRY);
     bank.length = 1;
-    measure_bank(BANK_CHECK, run_bank_check, TENONWHISK_BANK_IN_HEADER);
-    measure_bank(BANK_ENTRY, run_bank_entry, 9);
+    measure_stateless(BANK_CHECK, run_bank_check, TENONWHISK_BANK_IN_HEADER);
+    measure_stateless(BANK_ENTRY, run_bank_entry, 9);
+}
+
+/* ---- XA speech, which needs no state */
+
+static struct {
+    uint8_t sector[TENONWHISK_XA_SECTOR_BYTES];
+    int16_t out[TENONWHISK_XA_SAMPLES];
+    size_t length;
+    bool stereo;
+    bool eight_bit;
+} xa;
+
+static struct outcome run_xa_fresh(const struct lent *lent)
+{
+    (void)lent;
+    return (struct outcome){tenonwhisk_xa_fresh().mono.old != 0, true};
+}
+
+static struct outcome run_xa_decode(const struct lent *lent)
+{
+    (void)lent;
+    struct tenonwhisk_xa_histories histories = {{1, 2}, {3, 4}, {5, 6}};
+    struct tenonwhisk_xa_decoded decoded =
+        tenonwhisk_xa_decode(xa.sector, xa.length, xa.stereo, xa.eight_bit, histories, xa.out, TENONWHISK_XA_SAMPLES);
+    return (struct outcome){decoded.number, true};
+}
+
+static void measure_xa(void)
+{
+    measure_stateless(XA_FRESH, run_xa_fresh, 0);
+    for (uint8_t filter = 0; filter < 8; filter++) {
+        xa.stereo = filter % 2;
+        memset(xa.sector, filter << 4, sizeof xa.sector);
+        xa.length = sizeof xa.sector;
+        measure_stateless(XA_DECODE, run_xa_decode, 0);
+        xa.sector[sizeof xa.sector - 116] ^= 1; /* byte 12 of the last sound group */
+        measure_stateless(XA_DECODE, run_xa_decode, 12);
+        xa.eight_bit = true;
+        measure_stateless(XA_DECODE, run_xa_decode, 13);
+        xa.length--;
+        measure_stateless(XA_DECODE, run_xa_decode, 14);
+        xa.eight_bit = false;
+    }
 }
 
 static void print_largest(void)
@@ -283,6 +328,7 @@ int main(void)
         measure_playing(sizes[k], 2, 0xC030);
     }
     measure_banks();
+    measure_xa();
     free(stack);
     print_largest();
     return all_passed() ? EXIT_SUCCESS : EXIT_FAILURE;

@@ -5,7 +5,7 @@ use std::io::{self, BufReader, Read};
 
 use crate::failure::Failure;
 use crate::source::Source;
-use crate::wav::PAIR_BYTES;
+use crate::wav::{PAIR_BYTES, RATE};
 use crate::wav_in::{self, Extent, Unfit};
 use crate::words;
 
@@ -33,7 +33,7 @@ impl Cd {
             Ok(true) => Ok(Some(format!(
                 "{} is shorter than its header says: its sound ends at {}, and silence follows",
                 self.name,
-                words::seconds(self.sound.pairs)
+                words::seconds(self.sound.pairs, RATE)
             ))),
             Err(error) => Err(Failure::reading(&self.name, &error)),
         }

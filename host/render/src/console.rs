@@ -4,7 +4,6 @@ use std::io::{self, IsTerminal, Write};
 use std::time::{Duration, Instant};
 
 use crate::failure::Failure;
-use crate::wav::RATE;
 use crate::{files, system};
 
 const BETWEEN_PROGRESS: Duration = Duration::from_millis(200);
@@ -41,12 +40,12 @@ impl Console {
         put(&format!("{cleared}{words}\n"));
     }
 
-    /// Shows on a terminal, now and then, how much is rendered.
-    pub fn progress(&mut self, pairs: u64) {
+    /// Shows on a terminal, now and then, how far the run is.
+    pub fn progress(&mut self, words: impl FnOnce() -> String) {
         if !self.terminal || Instant::now() < self.next_progress {
             return;
         }
-        let words = format!("{:.1} s rendered", pairs as f64 / f64::from(RATE));
+        let words = format!("{:width$}", words(), width = self.shown);
         put(&format!("\r{words}"));
         self.shown = words.len();
         self.next_progress = Instant::now() + BETWEEN_PROGRESS;

@@ -3,6 +3,8 @@
 
 use tenonwhisk::bank::{self, Damage, Entry, MOST_ENTRIES};
 
+use crate::words::counted;
+
 const BLOCK_BYTES: u64 = 16;
 
 /// Where a bank is damaged first, and why; `None` if it is good.
@@ -95,11 +97,6 @@ fn faults_of_alias(n: u32, entry: Entry) -> Vec<String> {
 pub fn range(sound: Entry) -> (u64, u64) {
     let start = u64::from(sound.offset);
     (start, start + BLOCK_BYTES * u64::from(sound.count))
-}
-
-/// A number with the word for one or for many.
-pub fn counted(number: u64, one: &str, many: &str) -> String {
-    format!("{number} {}", if number == 1 { one } else { many })
 }
 
 #[cfg(test)]

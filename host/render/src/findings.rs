@@ -1,5 +1,6 @@
 //! What a run found wrong, and the exit status for it.
 
+use crate::wav::RATE;
 use crate::words;
 
 const IN_DOUBT: u8 = 1;
@@ -23,12 +24,12 @@ impl Findings {
 
     /// The last line of a run that gave so many pairs.
     pub fn summary(&self, output: &str, pairs: u64) -> String {
-        let mut summary = format!("{output}: {}", words::seconds(pairs));
+        let mut summary = format!("{output}: {}", words::seconds(pairs, RATE));
         if self.lines > 0 {
             summary += &format!(", lines bad or refused: {}", self.lines);
         }
         if let Some(tick) = self.doubt {
-            summary += &format!(", in doubt from {} on", words::seconds(tick));
+            summary += &format!(", in doubt from {} on", words::seconds(tick, RATE));
         }
         summary
     }

@@ -1,4 +1,4 @@
-//! What the programs `render` and `bank` are made of.
+//! What the programs `render`, `bank` and `xa` are made of.
 //!
 //! `render` turns a script into a WAV file. [`options`] reads its command line; [`source`] and [`target`] find out what
 //! the names stand for. [`rendering`] leads a run: [`script`], [`banks`], [`cd`] with [`wav_in`], and [`load`] read, and
@@ -7,12 +7,17 @@
 //! `bank` lists a sound bank: [`listing`]. Both programs read banks with [`banks`] and say with [`damage`] what is wrong
 //! with them.
 //!
-//! [`console`], [`failure`] and [`words`] make messages, [`files`] knows names and links, and [`system`] handles signals.
+//! `xa` decodes XA sectors to a WAV file: [`speech`]. It writes as `render` does.
+//!
+//! [`arguments`] takes command lines apart, and [`clashes`] finds names that stand for one file. [`console`], [`failure`]
+//! and [`words`] make messages, [`files`] knows names and links, and [`system`] handles signals.
 
 #![deny(unsafe_code)]
 
+pub mod arguments;
 pub mod banks;
 pub mod cd;
+pub mod clashes;
 pub mod console;
 pub mod damage;
 pub mod failure;
@@ -25,6 +30,7 @@ pub mod output;
 pub mod rendering;
 pub mod script;
 pub mod source;
+pub mod speech;
 #[allow(unsafe_code)]
 pub mod system;
 pub mod target;

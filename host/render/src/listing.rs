@@ -2,7 +2,8 @@
 
 use tenonwhisk::bank::{self, Entry};
 
-use crate::damage::{self, counted, Shape};
+use crate::damage::{self, Shape};
+use crate::words::counted;
 
 /// How many aliases of a chain a line names.
 const MOST_NAMED: usize = 3;

@@ -53,7 +53,7 @@ fn render(options: &Options, console: &mut Console) -> u8 {
     let mut fate = target::untouched(&options.out);
     let rendered = Rendering::prepare(options, console, &mut findings).and_then(|rendering| {
         if rendering.writes_stream() {
-            fate = "what was written of the stream is incomplete".to_owned();
+            fate = target::INCOMPLETE.to_owned();
         }
         rendering.run()
     });

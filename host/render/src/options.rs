@@ -1,10 +1,12 @@
-//! The command line.
+//! The command line of `render`.
 
 use std::ffi::{OsStr, OsString};
 use std::os::unix::ffi::OsStrExt;
 use std::path::PathBuf;
 
 use tenonwhisk::Size;
+
+use crate::arguments::{shown, split, two_names};
 
 pub const HELP: &str = "\
 usage: render [OPTIONS] SCRIPT OUT
@@ -99,17 +101,8 @@ pub fn parse(arguments: impl IntoIterator<Item = OsString>) -> Result<Request, S
             _ => names.push(argument),
         }
     }
-    let (script, out) = two(names)?;
+    let (script, out) = two_names(names, "SCRIPT")?;
     Ok(Request::Render(Options { size, cd, title, house, script, out }))
-}
-
-/// `--option=value` in its parts; of any other argument the whole.
-fn split(argument: &OsStr) -> (&[u8], Option<OsString>) {
-    let bytes = argument.as_bytes();
-    match bytes.iter().position(|&byte| byte == b'=') {
-        Some(at) if bytes.starts_with(b"--") => (&bytes[..at], Some(OsStr::from_bytes(&bytes[at + 1..]).to_owned())),
-        _ => (bytes, None),
-    }
 }
 
 fn ram(value: Option<OsString>) -> Result<Size, String> {
@@ -126,22 +119,6 @@ fn file(value: Option<OsString>, needed: &str) -> Result<PathBuf, String> {
         Some(name) if !name.is_empty() => Ok(PathBuf::from(name)),
         _ => Err(needed.to_owned()),
     }
-}
-
-fn two(names: Vec<OsString>) -> Result<(OsString, OsString), String> {
-    let mut names = names.into_iter();
-    let script = names.next().ok_or("SCRIPT and OUT are missing")?;
-    let out = names.next().ok_or("OUT is missing")?;
-    match names.next() {
-        Some(third) => Err(format!("one name too many: {}", shown(&third))),
-        None if script.is_empty() => Err("the name of SCRIPT is empty".to_owned()),
-        None if out.is_empty() => Err("the name of OUT is empty".to_owned()),
-        None => Ok((script, out)),
-    }
-}
-
-fn shown(argument: &OsStr) -> String {
-    crate::words::name(argument.as_ref())
 }
 
 #[cfg(test)]

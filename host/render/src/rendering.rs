@@ -9,7 +9,6 @@ use crate::banks::Banks;
 use crate::cd::Cd;
 use crate::console::Console;
 use crate::failure::Failure;
-use crate::files::{self, Identity};
 use crate::findings::Findings;
 use crate::load::{self, Loader};
 use crate::options::Options;
@@ -17,7 +16,8 @@ use crate::output::Output;
 use crate::script::{Command, Script};
 use crate::source::Source;
 use crate::target::Target;
-use crate::words;
+use crate::wav::{Format, RATE};
+use crate::{clashes, words};
 
 /// Pairs that are rendered at once.
 const MOST_PAIRS: usize = 4096;
@@ -46,17 +46,16 @@ impl<'a> Rendering<'a> {
         findings: &'a mut Findings,
     ) -> Result<Rendering<'a>, Failure> {
         let source = Source::find(&options.script)?;
-        let target = Target::find(&options.out)?;
+        let target = Target::find(&options.out, "render")?;
         let find = |path: &Option<PathBuf>| path.as_deref().map(Source::file).transpose();
         let (cd, title, house) = (find(&options.cd)?, find(&options.title)?, find(&options.house)?);
-        refuse_same(files::STANDARD_ERROR, standard_error(), &target)?;
         let inputs = [
             ("SCRIPT", Some(&source)),
             ("the CD", cd.as_ref()),
             ("the title's bank", title.as_ref()),
             ("the house's bank", house.as_ref()),
         ];
-        refuse_clashes(&target, &inputs)?;
+        clashes::refuse(&target, &inputs)?;
         target.check_replaceable()?;
         let loader = Loader::new(options.size).map_err(|refusal| Failure::new(refusal.to_string()))?;
         let banks = Banks::read(title, house)?;
@@ -72,7 +71,7 @@ impl<'a> Rendering<'a> {
             script: Script::new(source.open()?),
             script_name,
             folder,
-            output: Output::open(target)?,
+            output: Output::open(target, Format::CHIP)?,
             cd_samples: vec![0; 2 * MOST_PAIRS],
             samples: vec![0; 2 * MOST_PAIRS],
         })
@@ -87,7 +86,7 @@ impl<'a> Rendering<'a> {
         while let Some(command) = self.next_command()? {
             self.obey(command)?;
         }
-        let pairs = self.output.pairs();
+        let pairs = self.output.frames();
         self.output.finish()?;
         Ok(pairs)
     }
@@ -126,7 +125,8 @@ impl<'a> Rendering<'a> {
                 Ok(ran) => {
                     self.report_doubt(ran.doubt);
                     self.output.write(&self.samples[..2 * pairs])?;
-                    self.console.progress(self.output.pairs());
+                    let pairs = self.output.frames();
+                    self.console.progress(|| format!("{:.1} s rendered", pairs as f64 / f64::from(RATE)));
                 }
                 refused => self.report_refusal(refused),
             }
@@ -196,38 +196,12 @@ impl<'a> Rendering<'a> {
     /// Expects the tick within the run that the output gets next.
     fn report_doubt(&mut self, within_run: Option<usize>) {
         let Some(within_run) = within_run else { return };
-        let tick = self.output.pairs() + within_run as u64;
+        let tick = self.output.frames() + within_run as u64;
         self.findings.doubt = self.findings.doubt.or(Some(tick));
         self.console.line(&format!(
             "line {}: from tick {tick} ({}) on the sound may rest on memory that nobody loaded",
             self.script.line_number(),
-            words::seconds(tick)
+            words::seconds(tick, RATE)
         ));
     }
-}
-
-fn refuse_same(name: &str, identity: Option<Identity>, target: &Target) -> Result<(), Failure> {
-    if identity.is_none() || identity != target.identity {
-        return Ok(());
-    }
-    Err(Failure::new(format!("{name} and the output {} are the same file; nothing was written", target.name)))
-}
-
-/// Refuses inputs that are the output, and two that share their bytes: the first to be read would leave nothing for the
-/// second.
-fn refuse_clashes(target: &Target, inputs: &[(&str, Option<&Source>)]) -> Result<(), Failure> {
-    let inputs: Vec<_> = inputs.iter().filter_map(|&(role, source)| Some((role, source?))).collect();
-    for (k, &(role, source)) in inputs.iter().enumerate() {
-        refuse_same(&source.name, source.identity, target)?;
-        if let Some((other_role, other)) = inputs[..k].iter().find(|(_, other)| other.shares_bytes(source)) {
-            return Err(Failure::new(format!("{} cannot be both {other_role} and {role}", other.name)));
-        }
-    }
-    Ok(())
-}
-
-/// Messages must not land in the sound.
-fn standard_error() -> Option<Identity> {
-    let file = files::standard(std::io::stderr()).ok()?;
-    Identity::of(&file.metadata().ok()?)
 }

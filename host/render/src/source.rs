@@ -1,4 +1,4 @@
-//! Where a script, the CD or a sound bank is read from.
+//! Where a script, the CD, a sound bank or XA sectors are read from.
 
 use std::ffi::OsStr;
 use std::fs::{self, File};
@@ -80,6 +80,11 @@ impl Source {
             (Place::StandardInput(_), Place::StandardInput(_)) => true,
             _ => self.identity.is_some_and(|identity| identity.is_pipe()) && self.identity == other.identity,
         }
+    }
+
+    /// Whether it is a regular file that is named, not standard input: it has a length, and can be read twice.
+    pub fn is_named_file(&self) -> bool {
+        matches!(self.place, Place::Named(_)) && self.identity.is_some_and(|identity| !identity.is_pipe())
     }
 
     pub fn open(self) -> Result<File, Failure> {

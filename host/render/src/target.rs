@@ -15,6 +15,8 @@ pub struct Target {
     pub name: String,
     pub identity: Option<Identity>,
     pub kind: Kind,
+    /// The program that writes it, as messages and the temporary file name it.
+    pub program: &'static str,
 }
 
 pub enum Kind {
@@ -36,6 +38,9 @@ pub fn shown(name: &OsStr) -> String {
     }
 }
 
+/// The last line of a run that failed after a stream was begun.
+pub const INCOMPLETE: &str = "what was written of the stream is incomplete";
+
 /// The last line of a run that failed and left the output alone.
 pub fn untouched(name: &OsStr) -> String {
     let shown = shown(name);
@@ -47,7 +52,7 @@ pub fn untouched(name: &OsStr) -> String {
 }
 
 impl Target {
-    pub fn find(name: &OsStr) -> Result<Target, Failure> {
+    pub fn find(name: &OsStr, program: &'static str) -> Result<Target, Failure> {
         let shown = shown(name);
         let kind = match name.as_bytes() {
             b"-" => standard_output(),
@@ -55,19 +60,21 @@ impl Target {
         };
         let kind = kind.map_err(|error| Failure::writing(&shown, &error))?;
         let identity = kind.metadata().as_ref().and_then(Identity::of);
-        Ok(Target { name: shown, identity, kind })
+        Ok(Target { name: shown, identity, kind, program })
     }
 
     /// Refuses a file that may not be written, and one that has content but is not a WAV file: the two names are easily
     /// exchanged.
     pub fn check_replaceable(&self) -> Result<(), Failure> {
         let Kind::File { path, old: Some(_) } = &self.kind else { return Ok(()) };
-        let name = &self.name;
+        let Target { name, program, .. } = self;
         let beginning = beginning_of_writable(path).map_err(|error| Failure::writing(name, &error))?;
         if beginning.is_empty() || wav::is_wav(&beginning) {
             return Ok(());
         }
-        Err(Failure::new(format!("{name} is not a WAV file, and render replaces only WAV files; nothing was written")))
+        Err(Failure::new(format!(
+            "{name} is not a WAV file, and {program} replaces only WAV files; nothing was written"
+        )))
     }
 }
 

@@ -25,8 +25,8 @@ const FORBIDDEN: &str = "no new file may be created in its folder";
 
 impl Temporary {
     /// Creates the file with the owner and the mode of the file that it will replace.
-    pub fn create(target: &Path, old: Option<&Metadata>) -> io::Result<(Temporary, File)> {
-        let (file, temporary) = system::uninterrupted(|| create_named(target, old.is_some()))?;
+    pub fn create(program: &str, target: &Path, old: Option<&Metadata>) -> io::Result<(Temporary, File)> {
+        let (file, temporary) = system::uninterrupted(|| create_named(program, target, old.is_some()))?;
         if let Some(old) = old {
             let _ = fchown(&file, Some(old.uid()), Some(old.gid())); // only root may give a file away
             file.set_permissions(Permissions::from_mode(old.mode() & 0o777))?;
@@ -54,9 +54,9 @@ impl Drop for Temporary {
 }
 
 /// Creates the file under a free name. From then on a signal removes it.
-fn create_named(target: &Path, private: bool) -> io::Result<(File, Temporary)> {
+fn create_named(program: &str, target: &Path, private: bool) -> io::Result<(File, Temporary)> {
     for attempt in 0..MOST_NAMES {
-        let path = target.with_file_name(name(target, attempt));
+        let path = target.with_file_name(name(program, target, attempt));
         match File::options().write(true).create_new(true).mode(if private { 0o600 } else { 0o666 }).open(&path) {
             Ok(file) => {
                 system::set_ending(Ending::AsBefore(Some(&path)));
@@ -71,14 +71,14 @@ fn create_named(target: &Path, private: bool) -> io::Result<(File, Temporary)> {
     Err(io::Error::other("earlier runs left too many temporary files beside it"))
 }
 
-fn name(target: &Path, attempt: u32) -> String {
+fn name(program: &str, target: &Path, attempt: u32) -> String {
     let target = target.file_name().unwrap_or_default().to_string_lossy();
     let mut end = target.len().min(MOST_NAME_BYTES);
     while !target.is_char_boundary(end) {
         end -= 1;
     }
     let again = if attempt == 0 { String::new() } else { format!("-{attempt}") };
-    format!(".{}.render-{}{again}.tmp", &target[..end], process::id())
+    format!(".{}.{program}-{}{again}.tmp", &target[..end], process::id())
 }
 
 #[cfg(test)]
@@ -88,13 +88,13 @@ mod tests {
     #[test]
     fn the_name_tells_the_target() {
         let id = process::id();
-        assert_eq!(name(Path::new("a/song.wav"), 0), format!(".song.wav.render-{id}.tmp"));
-        assert_eq!(name(Path::new("song.wav"), 2), format!(".song.wav.render-{id}-2.tmp"));
+        assert_eq!(name("render", Path::new("a/song.wav"), 0), format!(".song.wav.render-{id}.tmp"));
+        assert_eq!(name("xa", Path::new("song.wav"), 2), format!(".song.wav.xa-{id}-2.tmp"));
     }
 
     #[test]
     fn the_name_is_short_enough() {
         let long = "ü".repeat(127);
-        assert!(name(Path::new(&long), 99).len() <= 255);
+        assert!(name("render", Path::new(&long), 99).len() <= 255);
     }
 }

@@ -1,9 +1,7 @@
-//! File names, errors and times as messages show them.
+//! File names, errors, times and counts as messages show them.
 
 use std::io;
 use std::path::Path;
-
-use crate::wav::RATE;
 
 /// A file's name, with `?` for each control character, which would break the line.
 pub fn name(path: &Path) -> String {
@@ -19,9 +17,14 @@ pub fn error(error: &io::Error) -> String {
     }
 }
 
-/// The time at which a tick begins, in seconds.
-pub fn seconds(tick: u64) -> String {
-    format!("{:.3} s", tick as f64 / f64::from(RATE))
+/// The time at which a tick begins, in seconds, of so many ticks a second.
+pub fn seconds(tick: u64, rate: u32) -> String {
+    format!("{:.3} s", tick as f64 / f64::from(rate))
+}
+
+/// A number with the word for one or for many.
+pub fn counted(number: u64, one: &str, many: &str) -> String {
+    format!("{number} {}", if number == 1 { one } else { many })
 }
 
 #[cfg(test)]
@@ -41,8 +44,9 @@ mod tests {
 
     #[test]
     fn times_have_milliseconds() {
-        assert_eq!(seconds(0), "0.000 s");
-        assert_eq!(seconds(4410), "0.100 s");
-        assert_eq!(seconds(44_100 * 3600 * 24), "86400.000 s");
+        assert_eq!(seconds(0, 44_100), "0.000 s");
+        assert_eq!(seconds(4410, 44_100), "0.100 s");
+        assert_eq!(seconds(2016, 37_800), "0.053 s");
+        assert_eq!(seconds(44_100 * 3600 * 24, 44_100), "86400.000 s");
     }
 }

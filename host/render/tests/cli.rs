@@ -16,9 +16,19 @@ mod loads;
 mod replacing;
 #[path = "cli/same_file.rs"]
 mod same_file;
+#[path = "cli/sectors.rs"]
+mod sectors;
 #[path = "cli/signals.rs"]
 mod signals;
 #[path = "cli/streams.rs"]
 mod streams;
 #[path = "cli/usage.rs"]
 mod usage;
+#[path = "cli/xa.rs"]
+mod xa;
+#[path = "cli/xa_damage.rs"]
+mod xa_damage;
+#[path = "cli/xa_files.rs"]
+mod xa_files;
+#[path = "cli/xa_usage.rs"]
+mod xa_usage;

@@ -5,6 +5,8 @@
 
 use core::ffi::c_float;
 
+use crate::xa::Histories;
+
 #[repr(C)]
 pub struct Overview {
     pub number: u8,
@@ -74,6 +76,12 @@ pub struct Written {
     pub length: usize,
 }
 
+#[repr(C)]
+pub struct Decoded {
+    pub number: u8,
+    pub histories: Histories,
+}
+
 #[rustfmt::skip]
 unsafe extern "C" {
     fn tenonwhisk_make(size: u32, state: *mut u8, state_len: usize) -> u8;
@@ -117,6 +125,11 @@ unsafe extern "C" {
         kinds: *const u16, kinds_len: usize, offsets: *const u32, offsets_len: usize,
         counts: *const u32, counts_len: usize, data: *const u8, data_len: usize, out: *mut u8, out_len: usize,
     ) -> Written;
+    fn tenonwhisk_xa_fresh() -> Histories;
+    fn tenonwhisk_xa_decode(
+        sector: *const u8, sector_len: usize, stereo: bool, eight_bit: bool, histories: Histories,
+        out: *mut i16, out_len: usize,
+    ) -> Decoded;
 }
 
 pub fn make(size: u32, state: &mut [u8]) -> u8 {
@@ -288,5 +301,17 @@ pub fn bank_write(kinds: &[u16], offsets: &[u32], counts: &[u32], data: &[u8], o
             out.as_mut_ptr(),
             out.len(),
         )
+    }
+}
+
+pub fn xa_fresh() -> Histories {
+    // SAFETY: the call takes nothing.
+    unsafe { tenonwhisk_xa_fresh() }
+}
+
+pub fn xa_decode(sector: &[u8], stereo: bool, eight_bit: bool, histories: Histories, out: &mut [i16]) -> Decoded {
+    // SAFETY: pointers and lengths are those of slices, which do not overlap; `sector` is only read.
+    unsafe {
+        tenonwhisk_xa_decode(sector.as_ptr(), sector.len(), stereo, eight_bit, histories, out.as_mut_ptr(), out.len())
     }
 }

@@ -4,7 +4,8 @@ use core::fmt;
 /// Why a call was refused. A refused call changes nothing.
 ///
 /// Where several reasons apply, the call returns the one with the lowest number, except that
-/// [`Undocumented`](Refusal::Undocumented) goes before [`NotCarried`](Refusal::NotCarried).
+/// [`Undocumented`](Refusal::Undocumented) goes before [`NotCarried`](Refusal::NotCarried), and that the three of XA
+/// sectors go the other way: 14, 13, 12.
 #[derive(Debug, Clone, Copy, PartialEq, Eq, Hash)]
 #[non_exhaustive]
 pub enum Refusal {
@@ -31,6 +32,12 @@ pub enum Refusal {
     /// 11: a write sets a bit that nobody has documented: bit 13 of a voice's +Ah, bits 15-8 of 18Ah,
     /// 18Eh, 192h, 196h and 19Ah, or bits 15-4 and 0 of 1ACh.
     Undocumented = 11,
+    /// 12: header bytes of an XA sector differ from their copies.
+    XaCopies = 12,
+    /// 13: XA samples of 8 bits, which are not decoded.
+    XaEightBit = 13,
+    /// 14: an XA sector, or the buffer for its samples, of another length.
+    XaLength = 14,
     /// 24: the buffer is shorter than the sound bank to be written.
     Room = 24,
     /// 25: the buffers of a run do not hold whole pairs, or have different lengths.
@@ -58,6 +65,9 @@ impl Refusal {
             9 => Refusal::Bank,
             10 => Refusal::NoEntry,
             11 => Refusal::Undocumented,
+            12 => Refusal::XaCopies,
+            13 => Refusal::XaEightBit,
+            14 => Refusal::XaLength,
             24 => Refusal::Room,
             25 => Refusal::Buffers,
             _ => unreachable!("the library gives no other number"),
@@ -91,6 +101,9 @@ impl fmt::Display for Refusal {
                 "the value sets a bit that nobody has documented (bit 13 of a voice's +Ah; \
                  bits 15-8 of 18Ah, 18Eh, 192h, 196h, 19Ah; bits 15-4 and 0 of 1ACh)"
             }
+            Refusal::XaCopies => "the XA sector is damaged: header bytes of a sound group differ from their copies",
+            Refusal::XaEightBit => "XA samples of 8 bits are not decoded, only those of 4 bits",
+            Refusal::XaLength => "an XA sector is 2,304 bytes, and its samples are 4,032",
             Refusal::Room => "the buffer is shorter than the sound bank to be written",
             Refusal::Buffers => "the buffers do not hold whole pairs, or have different lengths",
         })

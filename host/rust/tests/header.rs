@@ -1,10 +1,10 @@
 //! What the crate and `tenonwhisk.h` say twice.
 
-use tenonwhisk::{bank, Refusal, State, VERSION};
+use tenonwhisk::{bank, xa, Refusal, State, VERSION};
 
 const HEADER: &str = include_str!("../../tenonwhisk.h");
 
-const REFUSALS: [(&str, Refusal); 13] = [
+const REFUSALS: [(&str, Refusal); 16] = [
     ("MEMORY", Refusal::Memory),
     ("STATE", Refusal::State),
     ("OFFSET", Refusal::Offset),
@@ -16,6 +16,9 @@ const REFUSALS: [(&str, Refusal); 13] = [
     ("BANK", Refusal::Bank),
     ("NO_ENTRY", Refusal::NoEntry),
     ("UNDOCUMENTED", Refusal::Undocumented),
+    ("XA_COPIES", Refusal::XaCopies),
+    ("XA_EIGHT_BIT", Refusal::XaEightBit),
+    ("XA_LENGTH", Refusal::XaLength),
     ("ROOM", Refusal::Room),
     ("BUFFERS", Refusal::Buffers),
 ];
@@ -61,4 +64,10 @@ fn banks() {
     assert_eq!(between("#define TENONWHISK_BANK_ENTRIES ", "\n"), bank::MOST_ENTRIES.to_string());
     assert_eq!(between("TENONWHISK_BANK_SOUND = ", ","), bank::Entry::SOUND.to_string());
     assert_eq!(between("TENONWHISK_BANK_ALIAS = ", " "), bank::Entry::ALIAS.to_string());
+}
+
+#[test]
+fn speech() {
+    assert_eq!(between("#define TENONWHISK_XA_SECTOR_BYTES ", "\n"), xa::SECTOR_BYTES.to_string());
+    assert_eq!(between("#define TENONWHISK_XA_SAMPLES ", "\n"), xa::SAMPLES.to_string());
 }

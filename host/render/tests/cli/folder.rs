@@ -8,6 +8,7 @@ use std::process::{Command, Output, Stdio};
 
 pub const RENDER: &str = env!("CARGO_BIN_EXE_render");
 pub const BANK: &str = env!("CARGO_BIN_EXE_bank");
+pub const XA: &str = env!("CARGO_BIN_EXE_xa");
 
 /// A tenth of a second of silence.
 pub const SILENCE: &str = "t 4410\n";
@@ -81,26 +82,29 @@ impl Folder {
         fs::metadata(&self.0).unwrap().uid() == 0
     }
 
-    pub fn command(&self, arguments: &[&str]) -> Command {
-        let mut command = Command::new(RENDER);
+    /// A run of one of the programs.
+    pub fn command(&self, program: &str, arguments: &[&str]) -> Command {
+        let mut command = Command::new(program);
         command.args(arguments).current_dir(&self.0).stdin(Stdio::null());
         command
     }
 
     pub fn render(&self, arguments: &[&str]) -> Ran {
-        ran(self.command(arguments).output().unwrap())
+        ran(self.command(RENDER, arguments).output().unwrap())
     }
 
     pub fn bank(&self, arguments: &[&str]) -> Ran {
-        let mut command = Command::new(BANK);
-        ran(command.args(arguments).current_dir(&self.0).stdin(Stdio::null()).output().unwrap())
+        ran(self.command(BANK, arguments).output().unwrap())
     }
 
-    /// Runs a command of the shell, in which `$RENDER` and `$BANK` are the programs.
+    pub fn xa(&self, arguments: &[&str]) -> Ran {
+        ran(self.command(XA, arguments).output().unwrap())
+    }
+
+    /// Runs a command of the shell, in which `$RENDER`, `$BANK` and `$XA` are the programs.
     pub fn shell(&self, line: &str) -> Ran {
-        let mut command = Command::new("sh");
-        command.args(["-c", line]).env("RENDER", RENDER).env("BANK", BANK).current_dir(&self.0).stdin(Stdio::null());
-        ran(command.output().unwrap())
+        let mut command = self.command("sh", &["-c", line]);
+        ran(command.env("RENDER", RENDER).env("BANK", BANK).env("XA", XA).output().unwrap())
     }
 
     /// A WAV file that an earlier run made.
@@ -130,7 +134,7 @@ impl Ran {
     }
 }
 
-/// The samples of a WAV file that `render` wrote, with a header for this length.
+/// The samples of a WAV file with a header for this length.
 #[track_caller]
 pub fn samples(wav: &[u8]) -> Vec<i16> {
     let sound = &wav[44..];

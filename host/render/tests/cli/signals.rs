@@ -7,16 +7,16 @@ use std::time::{Duration, Instant};
 use crate::folder::{ran, samples, Folder, RENDER};
 
 const SIGHUP: i32 = 1;
-const SIGINT: i32 = 2;
-const SIGTERM: i32 = 15;
+pub const SIGINT: i32 = 2;
+pub const SIGTERM: i32 = 15;
 
-fn send(signal: i32, child: &Child) {
+pub fn send(signal: i32, child: &Child) {
     let sent = Command::new("kill").args([format!("-{signal}"), child.id().to_string()]).status().unwrap();
     assert!(sent.success());
 }
 
 #[track_caller]
-fn wait_until(what: impl Fn() -> bool) {
+pub fn wait_until(what: impl Fn() -> bool) {
     let end = Instant::now() + Duration::from_secs(20);
     while !what() {
         assert!(Instant::now() < end, "it takes too long");
@@ -24,10 +24,10 @@ fn wait_until(what: impl Fn() -> bool) {
     }
 }
 
-/// Runs a command with a pipe as standard input, which stays open, and begins the script.
-fn begin(command: &mut Command, script: &str) -> Child {
+/// Runs a command with a pipe as standard input, which stays open, and begins the input.
+pub fn begin(command: &mut Command, input: impl AsRef<[u8]>) -> Child {
     let mut child = command.stdin(Stdio::piped()).stdout(Stdio::piped()).stderr(Stdio::piped()).spawn().unwrap();
-    child.stdin.as_mut().unwrap().write_all(script.as_bytes()).unwrap();
+    child.stdin.as_mut().unwrap().write_all(input.as_ref()).unwrap();
     child
 }
 
@@ -42,7 +42,7 @@ fn an_interrupted_run_leaves_what_was_before() {
     for signal in [SIGHUP, SIGINT, SIGTERM] {
         let folder = Folder::new(&format!("signal-{signal}"));
         let earlier = folder.render_earlier("out.wav");
-        let child = begin(&mut folder.command(&["-", "out.wav"]), "t 44100\n");
+        let child = begin(&mut folder.command(RENDER, &["-", "out.wav"]), "t 44100\n");
         wait_for_temporary(&folder, &child, 44 + 4 * 44100);
         send(signal, &child);
         let ran = ran(child.wait_with_output().unwrap());
@@ -56,7 +56,7 @@ fn an_interrupted_run_leaves_what_was_before() {
 #[test]
 fn an_interrupted_run_makes_no_file() {
     let folder = Folder::new("signal-new");
-    let child = begin(&mut folder.command(&["-", "out.wav"]), "t 1\n");
+    let child = begin(&mut folder.command(RENDER, &["-", "out.wav"]), "t 1\n");
     wait_for_temporary(&folder, &child, 48);
     send(SIGINT, &child);
     assert_eq!(ran(child.wait_with_output().unwrap()).signal, Some(SIGINT));
@@ -66,7 +66,7 @@ fn an_interrupted_run_makes_no_file() {
 #[test]
 fn an_interrupted_stream_is_incomplete() {
     let folder = Folder::new("signal-stream");
-    let mut child = begin(&mut folder.command(&["-", "-"]), "t 100\n");
+    let mut child = begin(&mut folder.command(RENDER, &["-", "-"]), "t 100\n");
     let mut sound = [0; 444];
     child.stdout.as_mut().unwrap().read_exact(&mut sound).unwrap();
     send(SIGTERM, &child);
@@ -81,7 +81,7 @@ fn a_run_that_waits_for_a_fifo_is_interrupted() {
     for name in ["script", "out"] {
         assert!(Command::new("mkfifo").arg(folder.path(name)).status().unwrap().success());
     }
-    let child = begin(&mut folder.command(&["script", "out"]), "");
+    let child = begin(&mut folder.command(RENDER, &["script", "out"]), "");
     let writer = fs::File::options().write(true).open(folder.path("script")).unwrap(); // waits until the run opens it
     send(SIGINT, &child);
     let ran = ran(child.wait_with_output().unwrap());

@@ -1,4 +1,5 @@
-//! Ends with status 0 if a chip over lent memory makes its ticks, and a sound bank is written and read.
+//! Ends with status 0 if a chip over lent memory makes its ticks, a sound bank is written and read, and a sector of
+//! speech is decoded.
 
 #![no_std]
 #![no_main]
@@ -6,6 +7,7 @@
 use core::panic::PanicInfo;
 
 use tenonwhisk::bank::{self, Entry};
+use tenonwhisk::xa::{self, Bits, Channels, Histories};
 use tenonwhisk::{Refusal, Size, Spu, State};
 
 #[link(name = "c")]
@@ -24,9 +26,17 @@ fn sound_bytes() -> Result<usize, Refusal> {
     Ok(bank::lookup(&title, bank::EMPTY, 0)?.len())
 }
 
+fn first_sample() -> Result<i16, Refusal> {
+    let mut sector = [0; xa::SECTOR_BYTES];
+    sector[16] = 7;
+    let mut out = [0; xa::SAMPLES];
+    Histories::new().decode(&sector, Channels::Mono, Bits::Four, &mut out)?;
+    Ok(out[0])
+}
+
 #[no_mangle]
 extern "C" fn main() -> i32 {
-    i32::from(ticks() != Ok(10) || sound_bytes() != Ok(16))
+    i32::from(ticks() != Ok(10) || sound_bytes() != Ok(16) || first_sample() != Ok(0x7000))
 }
 
 #[panic_handler]
