@@ -27,7 +27,7 @@ static void set_header(uint8_t *group, int unit, uint8_t header)
     group[unit < 4 ? unit : 8 + unit] = header;
 }
 
-/* All filters by turns. Quiet sectors never reach the ends of the range, loud ones do so in every unit with a filter. */
+/* All filters by turns. Loud sectors reach the ends of the range, quiet ones hardly ever. */
 static void make_sector(uint8_t *sector, bool loud)
 {
     for (int k = 0; k < TENONWHISK_XA_SECTOR_BYTES; k++)
