@@ -12,6 +12,7 @@ pub struct Header {
     pub filter: u8,
 }
 
+// The number x, or other if x is above most.
 pub fn acts_as(most: u8, other: u8, x: u8) -> u8
     ensures { λ r. ⌜ r ≡ actsAs most other x ⌝ }
 {
@@ -32,6 +33,7 @@ const K0: [i32; 5] = [0, 60, 115, 98, 122];
 
 const K1: [i32; 5] = [0, 0, -52, -55, -60];
 
+// A filter's factor of the last sample.
 pub fn k0(filter: u8) -> i32
     requires { ⌜ filter < 5 ⌝ }
     ensures { λ r. ⌜ (r ≡ k0Of filter) × (In 0 122 r) ⌝ }
@@ -39,6 +41,7 @@ pub fn k0(filter: u8) -> i32
     K0[filter as usize]
 }
 
+// A filter's factor of the sample before that.
 pub fn k1(filter: u8) -> i32
     requires { ⌜ filter < 5 ⌝ }
     ensures { λ r. ⌜ (r ≡ k1Of filter) × (In 60 0 r) ⌝ }

@@ -25,6 +25,7 @@ isCopied sector g i = eqb (byteOf sector g i) (byteOf sector g (4 + i)) && eqb (
 abbrev pub isGroupCopied : List ℕ → ℕ → Bool
 isGroupCopied sector g = allBelow 4 (isCopied sector g)
 
+-- whole bytes, in every group
 abbrev pub areCopied : List ℕ → Bool
 areCopied sector = allBelow 18 (isGroupCopied sector)
 
@@ -68,7 +69,7 @@ channelOf sector first step h (suc n) =
 abbrev pub monoOf : List ℕ → History → List ℤ
 monoOf sector h = channelOf sector 0 1 h 144
 
--- "In stereo the even units are left"
+-- "In stereo the even units are left", and the odd ones right
 abbrev pub leftOf : List ℕ → History → List ℤ
 leftOf sector h = channelOf sector 0 2 h 72
 

@@ -27,7 +27,7 @@ pub struct Decoded {
     pub histories: Histories,
 }
 
-// Before the first sector.
+// The histories before the first sector.
 pub fn fresh() -> Histories
     ensures { λ r. ⌜ r ≡ freshOf ⌝ }
 {
