@@ -15,8 +15,9 @@ use Rattle.fixed.specs.Bits.{field}
 use Rattle.fixed.specs.Signed.{signed}
 use Rattle.fixed.specs.Arithmetic.{floorDiv}
 use Rattle.fixed.proofs.Table.{below, below-at, eqZ, eqZ→eq}
-use Rattle.adpcm.specs.Adpcm.{actsAs, headerOf, k0Of, k1Of, predictedOf, sampleOf, samplesOf, nibblesOf, blockOf}
+use Rattle.adpcm.specs.Adpcm.{actsAs, headerOf, k0Of, k1Of, predictedOf, sampleOf, samplesOf, nibblesOf, blockOf, afterOf}
 use Rattle.adpcm.specs.declared.Header.{Header}
+use Rattle.adpcm.specs.declared.History.{History}
 
 -- ---- the header
 
@@ -142,3 +143,18 @@ module _ {h : Header} {bytes : List ℕ} where
       (ap₂ (blockOf bytes) (sym e) (sym f)
       ∙ r .rest
       ∙ rw (take-all (i * 2) out (omega arith), drop-of-length-le (nibblesOf (drop 2 bytes)) {i = i * 2} (omega arith), append-nil out))
+
+-- ---- the last two samples
+
+pub after-append : (h : History) (xs ys : List ℤ) → afterOf (afterOf h xs) ys ≡ afterOf h (xs ++ ys)
+unfolding afterOf
+after-append h [] ys = refl
+after-append h (x ∷ xs) ys = after-append (record { old = x; older = h .old }) xs ys
+
+pub after-last : (h : History) (xs : List ℤ) (n : ℕ) → length xs ≡ suc (suc n) → record { old = getD xs (suc n) (pos 0); older = getD xs n (pos 0) } ≡ afterOf h xs
+unfolding afterOf
+after-last h [] n e = absurd (omega arith)
+after-last h (x ∷ []) n e = absurd (omega arith)
+after-last h (x ∷ y ∷ []) n e = let q : n ≡ 0 = omega arith in rw q
+after-last h (x ∷ y ∷ z ∷ xs) zero e = absurd (omega arith)
+after-last h (x ∷ y ∷ z ∷ xs) (suc n) e = after-last (record { old = x; older = h .old }) (y ∷ z ∷ xs) n (omega arith)

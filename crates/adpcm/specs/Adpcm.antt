@@ -9,6 +9,7 @@ use Rattle.fixed.specs.Bits.{field}
 use Rattle.fixed.specs.Signed.{signed}
 use Rattle.fixed.specs.Arithmetic.{saturated, floorDiv}
 use Rattle.adpcm.specs.declared.Header.{Header}
+use Rattle.adpcm.specs.declared.History.{History}
 
 -- "13..15 act as 9", "5..7 act as 0": a number above most acts as other
 unfoldable pub actsAs : ℕ → ℕ → ℕ → ℕ
@@ -52,3 +53,8 @@ nibblesOf (b ∷ bs) = b % 16 ∷ field 4 4 b ∷ nibblesOf bs
 -- a block's samples: byte 0 is the header, byte 1 the loop flags, the others hold the nibbles
 unfoldable pub blockOf : List ℕ → ℤ → ℤ → List ℤ
 blockOf bytes old older = samplesOf (headerOf (getD bytes 0 0)) (nibblesOf (drop 2 bytes)) old older
+
+-- the last two samples after those of a row
+unfoldable pub afterOf : History → List ℤ → History
+afterOf h [] = h
+afterOf h (x ∷ xs) = afterOf (record { old = x; older = h .old }) xs

@@ -12,6 +12,13 @@ pub struct Header {
     pub filter: u8,
 }
 
+// The last two samples of a sound.
+#[repr(C)]
+pub struct History {
+    pub old: i16,
+    pub older: i16,
+}
+
 // The number x, or other if x is above most.
 pub fn acts_as(most: u8, other: u8, x: u8) -> u8
     ensures { λ r. ⌜ r ≡ actsAs most other x ⌝ }

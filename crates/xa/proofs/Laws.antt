@@ -13,11 +13,11 @@ use lib.Dec.{eqb}
 use Rattle.fixed.specs.Bits.{field}
 use Rattle.fixed.proofs.Bools.{and-first, and-rest}
 use Rattle.adpcm.specs.declared.Header.{Header}
-use Rattle.adpcm.specs.Adpcm.{actsAs, sampleOf, samplesOf}
-use Rattle.adpcm.proofs.Laws.{acts-most}
-use Rattle.xa.specs.declared.History.{History}
+use Rattle.adpcm.specs.declared.History.{History}
+use Rattle.adpcm.specs.Adpcm.{actsAs, sampleOf, samplesOf, afterOf}
+use Rattle.adpcm.proofs.Laws.{acts-most, after-append}
 use Rattle.xa.specs.declared.Histories.{Histories}
-use Rattle.xa.specs.Xa.{byteOf, areCopied, headerByte, headerOf, nibbleOf, nibblesOf, unitOf, afterOf, channelOf, monoOf, leftOf, rightOf, alternateOf, placedOf, isSized, numberOf, acceptedOf, decodedOf}
+use Rattle.xa.specs.Xa.{byteOf, areCopied, headerByte, headerOf, nibbleOf, nibblesOf, unitOf, channelOf, monoOf, leftOf, rightOf, alternateOf, placedOf, isSized, numberOf, acceptedOf, decodedOf}
 
 -- ---- the header
 
@@ -107,11 +107,6 @@ unfolding placedOf
 placed-append out at step [] ys = let q : at + 0 * step ≡ at = omega arith in rw q
 placed-append out at step (x ∷ xs) ys =
     let q : at + suc (length xs) * step ≡ at + step + length xs * step = omega arith in rw q (placed-append (set out at x) (at + step) step xs ys)
-
-after-append : (h : History) (xs ys : List ℤ) → afterOf (afterOf h xs) ys ≡ afterOf h (xs ++ ys)
-unfolding afterOf
-after-append h [] ys = refl
-after-append h (x ∷ xs) ys = after-append (record { old = x; older = h .old }) xs ys
 
 -- the samples of a channel's first n units stand in `after`, and their last two are `last`
 pub record Channel (sector : List ℕ) (first step : ℕ) (h : History) (before after : List ℤ) (last : History) (n : ℕ) : Type 0 where

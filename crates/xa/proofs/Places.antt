@@ -10,10 +10,10 @@ use lib.Seq.{getD-append-add}
 use lib.IntN.{ℤ, pos}
 use Rattle.fixed.specs.Bits.{field}
 use Rattle.fixed.proofs.Table.{below-at}
-use Rattle.adpcm.specs.Adpcm.{headerOf as blockHeaderOf}
+use Rattle.adpcm.specs.declared.History.{History}
+use Rattle.adpcm.specs.Adpcm.{headerOf as blockHeaderOf, afterOf}
 use Rattle.adpcm.proofs.Laws.{acts-self}
-use Rattle.xa.specs.declared.History.{History}
-use Rattle.xa.specs.Xa.{headerByte, headerOf, nibbleOf, unitOf, afterOf, channelOf, monoOf, leftOf, rightOf, alternateOf}
+use Rattle.xa.specs.Xa.{headerByte, headerOf, nibbleOf, unitOf, channelOf, monoOf, leftOf, rightOf, alternateOf}
 use Rattle.xa.proofs.Laws.{nibble-even, nibble-odd, channel-length}
 
 -- ---- in a sector

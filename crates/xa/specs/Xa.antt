@@ -8,8 +8,8 @@ use lib.IntN.{ℤ, pos}
 use Rattle.fixed.specs.Bits.{field}
 use Rattle.fixed.specs.Tests.{allBelow}
 use Rattle.adpcm.specs.declared.Header.{Header}
-use Rattle.adpcm.specs.Adpcm.{actsAs, samplesOf}
-use Rattle.xa.specs.declared.History.{History}
+use Rattle.adpcm.specs.declared.History.{History}
+use Rattle.adpcm.specs.Adpcm.{actsAs, samplesOf, afterOf}
 use Rattle.xa.specs.declared.Histories.{Histories}
 
 -- ---- a sector
@@ -54,12 +54,7 @@ unitOf sector n h = samplesOf (headerOf (headerByte sector n)) (nibblesOf sector
 
 -- ---- a channel: left, right or mono
 
--- "each keep a history": the last two samples
-unfoldable pub afterOf : History → List ℤ → History
-afterOf h [] = h
-afterOf h (x ∷ xs) = afterOf (record { old = x; older = h .old }) xs
-
--- the samples of the first n of the units `first`, `first + step`, .., each unit after the history that the one before it leaves
+-- "each keep a history": the samples of the first n of the units `first`, `first + step`, .., each unit after the history that the one before it leaves
 unfoldable pub channelOf : List ℕ → (first step : ℕ) → History → (n : ℕ) → List ℤ
 channelOf sector first step h zero = []
 channelOf sector first step h (suc n) =

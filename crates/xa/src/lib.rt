@@ -3,15 +3,10 @@ ghost use mathlib.Core.Path.{_≡_};
 ghost use mathlib.Core.Bool.{true, false};
 ghost use Prim.Native.Nat.{_+_, _*_, _≤_, _<_};
 ghost use lib.ListN.{length};
-ghost use Rattle.xa.specs.Xa.{isGroupCopied, areCopied, headerByte, headerOf, nibbleOf, unitOf, afterOf, channelOf, placedOf, freshOf, numberOf, acceptedOf, decodedOf};
+ghost use Rattle.adpcm.specs.Adpcm.{afterOf};
+ghost use Rattle.xa.specs.Xa.{isGroupCopied, areCopied, headerByte, headerOf, nibbleOf, unitOf, channelOf, placedOf, freshOf, numberOf, acceptedOf, decodedOf};
 use adpcm::Header;
-
-// The last two samples of a channel.
-#[repr(C)]
-pub struct History {
-    pub old: i16,
-    pub older: i16,
-}
+use adpcm::History;
 
 #[repr(C)]
 pub struct Histories {
