@@ -7,9 +7,8 @@ use native.Mathlib.Decide.{ℕ-discrete}
 use native.Mathlib.Numerals.{add-one}
 use native.Mathlib.Omega.{arith}
 use lib.Dec.{eqb, eqb→eq}
-use lib.ListN.{length, take, set, getD}
-use lib.Seq.{take-suc, take-all, getD-set-same, getD-set-other}
-use borrow.Author.Count.{below-more}
+use lib.ListN.{length, take, getD}
+use lib.Seq.{take-suc, take-all}
 use borrow.Author.Tests.{eq-eqb, ne-eqb}
 use Rattle.fixed.specs.Bits.{bit, field}
 use Rattle.fixed.proofs.Table.{below-at}
@@ -21,19 +20,6 @@ use Rattle.soundram.specs.Memory.{half, marked}
 use Rattle.soundram.specs.Program.{memOf, Does, get, bytesFrom}
 use Rattle.soundram.proofs.Addresses.{forward-small}
 use Rattle.soundram.proofs.Programs.{does-done, does-give, does-bind, does-get}
-
--- bytes copied one by one: the first i of them
-abbrev pub Copied : List ℕ → List ℕ → ℕ → ℕ → Type 0
-Copied ram bs from i = (k : ℕ) → k < i → (getD bs k 0 ≡ getD ram (from + k) 0) × (getD bs k 0 < 256)
-
-pub copied-more : (ram bs : List ℕ) (from i : ℕ) {v : ℕ} → length bs ≡ 16 → i < 16 → v ≡ getD ram (from + i) 0 → v < 256 → Copied ram bs from i → Copied ram (set bs i v) from (i + 1)
-copied-more ram bs from i {v} l h e b f =
-    below-more (λ (k : ℕ). (getD (set bs i v) k 0 ≡ getD ram (from + k) 0) × (getD (set bs i v) k 0 < 256)) i
-    (λ k p. rw (getD-set-other bs i k v 0 (other k p)) (f k p))
-    (rw (getD-set-same bs i v 0 (omega arith)) (e, b))
-  where
-    other : (k : ℕ) → k < i → k ≡ i → ⊥
-    other k p q = omega arith
 
 -- h is one of the n numbers from b on
 module _ (h b : ℕ) where

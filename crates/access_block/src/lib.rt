@@ -1,9 +1,8 @@
 // A block loaded from sound RAM.
 ghost use mathlib.Core.Path.{_≡_};
 ghost use mathlib.Core.Bool.{_||_, _&&_};
-ghost use Prim.Native.Nat.{ℕ, _+_, _/_, _≤_, _<_};
+ghost use Prim.Native.Nat.{_/_, _<_};
 ghost use lib.Dec.{eqb};
-ghost use lib.ListN.{length, getD};
 ghost use Rattle.soundram.specs.Address.{Lent};
 ghost use Rattle.soundram.specs.Program.{Does, memOf, bytesFrom};
 use soundram::ByteAddress;
@@ -14,19 +13,6 @@ use soundram::Watch;
 pub struct Block {
     pub bytes: [u8; 16],
     pub watch: Watch,
-}
-
-// The 16 bytes from an address on.
-fn copied(ram: &[u8], a: ByteAddress) -> [u8; 16]
-    requires { ⌜ a .0 + 16 ≤ length (now ram) ⌝ }
-    ensures { λ r. ⌜ (length r ≡ 16) × ((k : ℕ) → k < 16 → (getD r k 0 ≡ getD (now (ram .entry)) (a .0 + k) 0) × (getD r k 0 < 256)) ⌝ }
-{
-    let from = a.0 as usize;
-    let mut bytes = [0u8; 16];
-    for i in 0..16usize {
-        bytes[i] = ram[from + i];
-    }
-    bytes
 }
 
 // What the reads of a block leave of the watch, if it lies at a multiple of 16 and is marked whole.
@@ -74,7 +60,7 @@ pub fn load(ram: &[u8], marks: &[u8], who: Reader, size: u32, a: ByteAddress, w:
 {
     let i = (a.0 / 16) as usize;
     if (a.0 % 16 == 0) & (marks[i] == 0xFF) {
-        let bytes = copied(ram, a);
+        let bytes = adpcm::block_at(ram, a.0 as usize);
         let watch = noticed_whole(w, a);
         return Block { bytes, watch };
     }

@@ -7,9 +7,10 @@ use native.Mathlib.Decide.{decLe}
 use native.Mathlib.Numerals.{add-one}
 use native.Mathlib.Omega.{arith}
 use lib.ListN.{length, take, drop, getD, set, length-drop, length-set, drop-of-length-le}
-use lib.Seq.{take-suc-set, take-all, drop-cons, getD-drop}
+use lib.Seq.{take-suc-set, take-all, drop-cons, getD-drop, getD-set-same, getD-set-other}
 use lib.IntN.{ℤ, pos, _+ℤ_, _*ℤ_}
 use lib.Signed.{shrZ}
+use borrow.Author.Count.{below-more}
 use borrow.Author.Tests.{lt-ltb, le-ltb}
 use Rattle.fixed.specs.Bits.{field}
 use Rattle.fixed.specs.Signed.{signed}
@@ -101,6 +102,21 @@ nibble-low bytes i = sym (at (drop 2 bytes) (i * 2) i 0 (omega arith) (omega ari
 
 nibble-high : (bytes : List ℕ) (i : ℕ) → getD bytes (2 + i) 0 / 16 % 16 ≡ getD (nibblesOf (drop 2 bytes)) (i * 2 + 1) 0
 nibble-high bytes i = sym (at (drop 2 bytes) (i * 2 + 1) i 1 (omega arith) (omega arith) ∙ ap (λ (b : ℕ). b / 16 % 16) (getD-drop 2 bytes i 0))
+
+-- ---- a block, copied
+
+-- the first i bytes of it
+abbrev pub Copied : List ℕ → List ℕ → ℕ → ℕ → Type 0
+Copied bytes block at i = (k : ℕ) → k < i → (getD block k 0 ≡ getD bytes (at + k) 0) × (getD block k 0 < 256)
+
+pub copied-more : (bytes block : List ℕ) (at i : ℕ) {v : ℕ} → length block ≡ 16 → i < 16 → v ≡ getD bytes (at + i) 0 → v < 256 → Copied bytes block at i → Copied bytes (set block i v) at (i + 1)
+copied-more bytes block at i {v} l h e b f =
+    below-more (λ (k : ℕ). (getD (set block i v) k 0 ≡ getD bytes (at + k) 0) × (getD (set block i v) k 0 < 256)) i
+    (λ k p. rw (getD-set-other block i k v 0 (other k p)) (f k p))
+    (rw (getD-set-same block i v 0 (omega arith)) (e, b))
+  where
+    other : (k : ℕ) → k < i → k ≡ i → ⊥
+    other k p q = omega arith
 
 -- ---- a block's samples, one by one
 

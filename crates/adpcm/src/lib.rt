@@ -1,6 +1,7 @@
 // ADPCM: the samples that a block of 16 bytes holds.
 ghost use mathlib.Core.Path.{_≡_};
-ghost use Prim.Native.Nat.{_≤_, _<_};
+ghost use Prim.Native.Nat.{ℕ, _+_, _≤_, _<_};
+ghost use lib.ListN.{length, getD};
 ghost use lib.IntN.{pos, _+ℤ_, _*ℤ_};
 ghost use Rattle.fixed.specs.Range.{In};
 ghost use Rattle.fixed.specs.Arithmetic.{floorDiv};
@@ -71,6 +72,18 @@ pub fn sample(t: u8, h: Header, f0: i32, f1: i32, old: i16, older: i16) -> i16
 {
     let new = fixed::to_signed(t as u16 * 0x1000) as i32 >> h.shift;
     fixed::saturate(new + predicted(f0, f1, old, older))
+}
+
+// The block at a place of a buffer.
+pub fn block_at(bytes: &[u8], at: usize) -> [u8; 16]
+    requires { ⌜ at + 16 ≤ length (now bytes) ⌝ }
+    ensures { λ r. ⌜ (length r ≡ 16) × ((k : ℕ) → k < 16 → (getD r k 0 ≡ getD (now (bytes .entry)) (at + k) 0) × (getD r k 0 < 256)) ⌝ }
+{
+    let mut block = [0u8; 16];
+    for i in 0..16usize {
+        block[i] = bytes[at + i];
+    }
+    block
 }
 
 // The samples of a block, of which old and older are the two before it: two of each byte, low nibble first.

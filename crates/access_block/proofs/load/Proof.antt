@@ -15,10 +15,13 @@ cast-i c = search needs
 shared-slice-read-if1 : tie.Need-shared-slice-read-if1
 shared-slice-read-if1 c = search needs
 
-copied-requires : tie.Need-copied-requires
-copied-requires c κs =
-    let z = c .before .before .before .before .before .before in
-    let e : z .args .a .0 % 16 ≡ 0 = eqb-true _ _ (and-first (eqb (z .args .a .0 % 16) 0) _ (c .if1 .taken)) in
+cast-block-at : tie.Need-cast-block-at
+cast-block-at c = search needs
+
+block-at-requires : tie.Need-block-at-requires
+block-at-requires c κs =
+    let z = c .before .before .before .before .before .before .before in
+    let e : z .args .a .0 % 16 ≡ 0 = eqb-true _ _ (and-first (eqb (z .args .a .0 % 16) 0) _ (c .before .if1 .taken)) in
     omega (arith, e, z .pre .0 .sized .sixteens, z .pre .0 .ram-size, z .pre .1)
 
 noticed-whole-requires : tie.Need-noticed-whole-requires
@@ -27,11 +30,11 @@ noticed-whole-requires c κs = search needs
 returns : tie.Need-returns
 returns c =
     let k = c .before in
-    let i = k .before in
+    let i = k .before .before in
     let z = i .before .before .before .before .before .before in
     let t = i .if1 .taken in
     let b = eqb (z .args .a .0 % 16) 0 in
-    whole-does _ _ _ _ _ _ _ (z .pre .0) (z .pre .1) (eqb-true _ _ (and-first b _ t)) (eqb-true _ _ (and-rest b _ t)) (k .copied .ensures .0) (k .copied .ensures .1) (c .noticed-whole .ensures)
+    whole-does _ _ _ _ _ _ _ (z .pre .0) (z .pre .1) (eqb-true _ _ (and-first b _ t)) (eqb-true _ _ (and-rest b _ t)) (k .block-at .ensures .0) (k .block-at .ensures .1) (c .noticed-whole .ensures)
 
 load-each-requires : tie.Need-load-each-requires
 load-each-requires c κs = search needs
@@ -45,7 +48,8 @@ load-spec =
     (tie.spec
     cast-i
     shared-slice-read-if1
-    copied-requires
+    cast-block-at
+    block-at-requires
     noticed-whole-requires
     returns
     load-each-requires
