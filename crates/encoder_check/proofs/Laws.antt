@@ -2,10 +2,10 @@
 use mathlib.Core.Path.{_≡_, refl, sym, ap, _∙_}
 use mathlib.Core.Bool.{Bool, true, false, cond, not, _&&_, _||_, Bool·beq}
 use mathlib.Core.List.{List}
-use Prim.Native.Nat.{ℕ, zero, suc, _+_, _-_, _*_, _/_, _%_, _≤_, _<_}
+use Prim.Native.Nat.{ℕ, _+_, _-_, _*_, _%_, _≤_, _<_}
 use native.Mathlib.Nat.{div-one}
-use native.Mathlib.Omega.{arith}
 use native.Mathlib.Numerals.{add-one}
+use native.Mathlib.Omega.{arith}
 use borrow.Author.Tests.{eqb-true, lt-ltb, le-ltb, le-leb, lt-leb, not-true, not-false}
 use lib.Dec.{eqb, leb, ltb}
 use lib.ListN.{length, drop, getD, length-drop}
@@ -23,7 +23,7 @@ use Rattle.adpcm.proofs.Laws.{after-last}
 use Rattle.encoder_check.specs.declared.Fault.{Fault}
 use Rattle.encoder_check.specs.declared.Verdict.{Verdict}
 use Rattle.encoder_check.specs.declared.Verdict.the-variants.{Yes, No, Refused}
-use Rattle.encoder_check.specs.Check.{blocksOf, bytesOf, historyOf, samplesOf, isWithin, isNear, areNear, isFlagRight, isFilterKnown, pairsOf, isRight, firstFault, brokenAt, unpairedAt, faultOf, groupsOf, areAsMany, isYes, isSized, verdictOf, answerOf}
+use Rattle.encoder_check.specs.Check.{blocksOf, groupsOf, bytesOf, historyOf, samplesOf, areAsMany, isWithin, isNear, areNear, isFlagRight, isFilterKnown, isYes, pairsOf, isRight, firstFault, brokenAt, unpairedAt, faultOf, isSized, verdictOf, answerOf}
 
 -- ---- a block
 

@@ -1,11 +1,11 @@
-use mathlib.Core.Path.{_≡_, refl, sym, _∙_}
+use mathlib.Core.Path.{_≡_, refl}
 use Prim.Native.Nat.{_-_, _≤_}
 use native.Mathlib.Omega.{arith}
 use borrow.Author.Needs.{needs}
 use borrow.Author.Tests.{not-true, not-false}
 use Rattle.fixed.specs.Tests.{firstFrom, firstBelow}
-use Rattle.fixed.proofs.Number.{passed}
 use Rattle.fixed.proofs.Bools.{first-more, first-fails, first-none}
+use Rattle.fixed.proofs.Number.{passed}
 use Rattle.encoder_check.specs.Check.{isNear}
 use Rattle.encoder_check.proofs.Laws.{near-by}
 use Rattle.encoder_check.proofs.first_far.Statement.{statement}
