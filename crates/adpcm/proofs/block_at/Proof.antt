@@ -37,7 +37,7 @@ loop-again c =
     let o = t .before in
     let v = o .loop .inv in
     let a = o .before .args in
-    (omega (arith, t .loop-test .taken), search needs, copied-more (a .bytes .now) (o .loop .block) (a .at) _ (v .1) (t .loop-test .taken) refl (omega (arith, c .shared-slice-known .given (a .at + o .loop .i))) (v .2))
+    (omega arith, search needs, copied-more (a .bytes .now) (o .loop .block) (a .at) _ (v .1) (omega arith) refl (omega (arith, c .shared-slice-known .given (a .at + o .loop .i))) (v .2))
 
 returns : tie.Need-returns Inv-loop μ-loop
 returns c =

@@ -43,7 +43,7 @@ returns : tie.Need-returns Inv-loop μ-loop
 returns c =
     let b = c .before .before .before .before in
     let a = b .before .before .args in
-    first-fails _ 28 _ (b .before .loop .inv .1) (b .loop-test .taken) (near-by (a .largest) (a .t3) (a .originals .now) (a .at) (b .before .loop .j) (c .before .is-within .ensures) (not-true _ (c .if1 .taken)) (search (passed, needs)) (search (passed, needs)))
+    first-fails _ 28 _ (b .before .loop .inv .1) (omega arith) (near-by (a .largest) (a .t3) (a .originals .now) (a .at) (b .before .loop .j) (c .before .is-within .ensures) (not-true _ (c .if1 .taken)) (search (passed, needs)) (search (passed, needs)))
 
 add-j : tie.Need-add-j Inv-loop μ-loop
 add-j c = search needs
@@ -55,10 +55,10 @@ loop-again : tie.Need-loop-again Inv-loop μ-loop
 loop-again c =
     let b = c .before .before .before .before in
     let a = b .before .before .args in
-    (omega (arith, b .loop-test .taken), first-more _ 28 _ (b .before .loop .inv .1) (b .loop-test .taken) (near-by (a .largest) (a .t3) (a .originals .now) (a .at) (b .before .loop .j) (c .before .is-within .ensures) (not-false _ (c .if1 .left)) (search (passed, needs)) (search (passed, needs))))
+    (omega arith, first-more _ 28 _ (b .before .loop .inv .1) (omega arith) (near-by (a .largest) (a .t3) (a .originals .now) (a .at) (b .before .loop .j) (c .before .is-within .ensures) (not-false _ (c .if1 .left)) (search (passed, needs)) (search (passed, needs))))
 
 returns-2 : tie.Need-returns-2 Inv-loop μ-loop
-returns-2 c = let v = c .before .loop .inv in first-none _ 28 _ (v .1) (v .0) (c .loop-test .left)
+returns-2 c = let v = c .before .loop .inv in first-none _ 28 _ (v .1) (v .0) (omega arith)
 
 pub first-far-spec : {M : Type 1} → statement M
 first-far-spec =

@@ -35,7 +35,7 @@ returns : tie.Need-returns Inv-loop μ-loop
 returns c =
     let j = c .before .before in
     let v = j .before .before .before .loop .inv in
-    fault-found _ _ _ (v .2) (omega arith) (j .judge .ensures) (c .before .is-broken .ensures) (c .if1 .taken)
+    fault-found _ _ _ (v .2) (omega arith) (j .judge .ensures) (c .before .is-broken .ensures) (search needs)
 
 last-two-requires : tie.Need-last-two-requires Inv-loop μ-loop
 last-two-requires c κs = search needs
@@ -51,7 +51,7 @@ loop-again c =
     let f = c .before in
     let j = f .before .before in
     let v = j .before .before .before .loop .inv in
-    (omega arith, v .1, searched-more _ _ _ (v .2) (omega arith) (j .judge .ensures) (f .before .is-broken .ensures) (f .if1 .left) (j .before .samples-at .ensures) (search needs) (c .last-two .ensures))
+    (omega arith, v .1, searched-more _ _ _ (v .2) (omega arith) (j .judge .ensures) (f .before .is-broken .ensures) (search needs) (j .before .samples-at .ensures) (search needs) (c .last-two .ensures))
 
 returns-2 : tie.Need-returns-2 Inv-loop μ-loop
 returns-2 c = let v = c .before .loop .inv in fault-none _ _ _ (v .2) (v .1) (v .0) (c .loop-test .left)
