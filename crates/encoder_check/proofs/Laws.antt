@@ -23,7 +23,7 @@ use Rattle.adpcm.proofs.Laws.{after-last}
 use Rattle.encoder_check.specs.declared.Fault.{Fault}
 use Rattle.encoder_check.specs.declared.Verdict.{Verdict}
 use Rattle.encoder_check.specs.declared.Verdict.the-variants.{Yes, No, Refused}
-use Rattle.encoder_check.specs.Check.{blocksOf, groupsOf, bytesOf, historyOf, samplesOf, areAsMany, isWithin, isNear, areNear, isFlagRight, isFilterKnown, isYes, pairsOf, isRight, firstFault, brokenAt, unpairedAt, faultOf, isSized, verdictOf, answerOf}
+use Rattle.encoder_check.specs.Check.{blocksOf, groupsOf, bytesOf, historyOf, decodedAt, areAsMany, isWithin, isNear, areNear, isFlagRight, isFilterKnown, isYes, pairsOf, isRight, firstFault, brokenAt, unpairedAt, faultOf, isSized, verdictOf, answerOf}
 
 -- ---- a block
 
@@ -78,7 +78,7 @@ samples-by encoded block n h c x u v =
 
 -- what the code finds in block n
 pub judged : (originals : List ℤ) (encoded : List ℕ) (e n : ℕ) {samples : List ℤ} {sample : ℕ} {flag known : Bool}
-    → samples ≡ samplesOf encoded n → sample ≡ firstBelow 28 (isNear e samples originals (n * 28))
+    → samples ≡ decodedAt encoded n → sample ≡ firstBelow 28 (isNear e samples originals (n * 28))
     → flag ≡ isFlagRight encoded n → known ≡ ltb (field 4 3 (getD encoded (n * 16) 0)) 5
     → record { block = n; unpaired = false; sample = sample; «end_flag» = not flag; filter = not known } ≡ brokenAt originals encoded e n
 judged originals encoded e n s t f k =
@@ -91,7 +91,7 @@ module _ (originals : List ℤ) (encoded : List ℕ) (e : ℕ) where
 
   broken-is : (n : ℕ) {f : Fault} {r : Bool} → f ≡ brokenAt originals encoded e n → r ≡ (ltb (f .sample) 28 || (f .«end_flag» || f .filter)) → r ≡ not (right n)
   broken-is n g t =
-      t ∙ rw (g, all-first (isNear e (samplesOf encoded n) originals (n * 28)) 28) (by (areNear originals encoded e n) (isFlagRight encoded n) (isFilterKnown encoded n))
+      t ∙ rw (g, all-first (isNear e (decodedAt encoded n) originals (n * 28)) 28) (by (areNear originals encoded e n) (isFlagRight encoded n) (isFilterKnown encoded n))
     where
       by : (a b c : Bool) → (not a || (not b || not c)) ≡ not (a && (b && c))
       by true true true = refl
@@ -110,7 +110,7 @@ module _ (originals : List ℤ) (encoded : List ℕ) (e : ℕ) where
   searched-none = record { kept = refl; first = first-begin right (pairsOf originals encoded) }
 
   module _ {h : History} {n : ℕ} (s : Searched h n) where
-    pub searched-samples : {xs : List ℤ} → xs ≡ blockOf (bytesOf encoded n) (h .old) (h .older) → xs ≡ samplesOf encoded n
+    pub searched-samples : {xs : List ℤ} → xs ≡ blockOf (bytesOf encoded n) (h .old) (h .older) → xs ≡ decodedAt encoded n
     searched-samples x = x ∙ rw (s .kept)
 
     -- f is what the code finds in block n, and r whether that is a fault

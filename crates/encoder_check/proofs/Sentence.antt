@@ -12,7 +12,7 @@ use lib.IntN.{ℤ, pos, natAbs, _-ℤ_}
 use Rattle.fixed.specs.Bits.{field}
 use Rattle.fixed.specs.Tests.{allBelow, firstBelow}
 use Rattle.fixed.proofs.Bools.{and-first, and-rest, all-at, all-true, first-most, first-passes, first-stops}
-use Rattle.encoder_check.specs.Check.{blocksOf, groupsOf, byteOf, samplesOf, isWithin, areAsMany, isNear, areNear, hasFlag, isFlagRight, isFilterKnown, isYes, pairsOf, isRight, firstFault, brokenAt, unpairedAt, faultOf}
+use Rattle.encoder_check.specs.Check.{blocksOf, groupsOf, byteOf, decodedAt, isWithin, areAsMany, isNear, areNear, hasFlag, isFlagRight, isFilterKnown, isYes, pairsOf, isRight, firstFault, brokenAt, unpairedAt, faultOf}
 
 module _ (originals : List ℤ) (encoded : List ℕ) (e : ℕ) where
   -- ---- "say yes exactly when"
@@ -21,7 +21,7 @@ module _ (originals : List ℤ) (encoded : List ℕ) (e : ℕ) where
     -- "there are as many blocks as whole groups of 28 originals"
     pub count : blocksOf encoded ≡ groupsOf originals
     -- "each sample decoded by 01's formula from zero history lies within E of its original": sample j of block n
-    pub near : (n j : ℕ) → n < blocksOf encoded → j < 28 → natAbs (getD (samplesOf encoded n) j (pos 0) -ℤ getD originals (n * 28 + j) (pos 0)) ≤ e
+    pub near : (n j : ℕ) → n < blocksOf encoded → j < 28 → natAbs (getD (decodedAt encoded n) j (pos 0) -ℤ getD originals (n * 28 + j) (pos 0)) ≤ e
     -- "the last encoded block, and no other, has the end flag"
     pub last : (n : ℕ) → n + 1 ≡ blocksOf encoded → hasFlag encoded n ≡ true
     pub others : (n : ℕ) → n + 1 < blocksOf encoded → hasFlag encoded n ≡ false
@@ -43,7 +43,7 @@ module _ (originals : List ℤ) (encoded : List ℕ) (e : ℕ) where
       let z = eqb-false n 0 (not-true _ (and-rest (allBelow n (isFilterKnown encoded)) _ t₃)) in
       record {
         count = eqb-true n (groupsOf originals) (and-first (areAsMany originals encoded) _ t);
-        near = λ m j l k. leb-true _ e (all-at (isNear e (samplesOf encoded m) originals (m * 28)) 28 j (all-at (areNear originals encoded e) n m nears l) k);
+        near = λ m j l k. leb-true _ e (all-at (isNear e (decodedAt encoded m) originals (m * 28)) 28 j (all-at (areNear originals encoded e) n m nears l) k);
         last = λ m q. last-has (hasFlag encoded m) (eq-eqb (m + 1) n q) (all-at (isFlagRight encoded) n m flags (omega arith));
         others = λ m l. other-lacks (hasFlag encoded m) (ne-eqb (m + 1) n (λ q. omega arith)) (all-at (isFlagRight encoded) n m flags (omega arith));
         filter = λ m l. ltb-true (field 4 3 (byteOf encoded m 0)) 5 (all-at (isFilterKnown encoded) n m filters l);
@@ -62,7 +62,7 @@ module _ (originals : List ℤ) (encoded : List ℕ) (e : ℕ) where
       let n = blocksOf encoded in
       rw (
         eq-eqb n (groupsOf originals) (p .count),
-        all-true (areNear originals encoded e) n (λ m l. all-true (isNear e (samplesOf encoded m) originals (m * 28)) 28 (λ j k. le-leb _ e (p .near m j l k))),
+        all-true (areNear originals encoded e) n (λ m l. all-true (isNear e (decodedAt encoded m) originals (m * 28)) 28 (λ j k. le-leb _ e (p .near m j l k))),
         all-true (isFlagRight encoded) n (λ m l. flag m l),
         all-true (isFilterKnown encoded) n (λ m l. lt-ltb (field 4 3 (byteOf encoded m 0)) 5 (p .filter m l)),
         ne-eqb n 0 (λ z. some-not z (p .some)),

@@ -34,9 +34,9 @@ unfoldable pub historyOf : List ℕ → ℕ → History
 historyOf encoded zero = record { old = pos 0; older = pos 0 }
 historyOf encoded (suc n) = let h = historyOf encoded n in afterOf h (blockOf (bytesOf encoded n) (h .old) (h .older))
 
--- the samples of block n
-abbrev pub samplesOf : List ℕ → ℕ → List ℤ
-samplesOf encoded n = let h = historyOf encoded n in blockOf (bytesOf encoded n) (h .old) (h .older)
+-- "each sample decoded": those of block n
+abbrev pub decodedAt : List ℕ → ℕ → List ℤ
+decodedAt encoded n = let h = historyOf encoded n in blockOf (bytesOf encoded n) (h .old) (h .older)
 
 -- ---- "yes exactly when"
 
@@ -44,7 +44,7 @@ samplesOf encoded n = let h = historyOf encoded n in blockOf (bytesOf encoded n)
 abbrev pub areAsMany : List ℤ → List ℕ → Bool
 areAsMany originals encoded = eqb (blocksOf encoded) (groupsOf originals)
 
--- a sample "lies within E of its original"
+-- a sample "lies within E of its original"; "E runs from 0 to 65,535", so the difference needs 17 bits
 unfoldable pub isWithin : (e : ℕ) → (sample original : ℤ) → Bool
 isWithin e x y = leb (natAbs (x -ℤ y)) e
 
@@ -54,7 +54,7 @@ isNear e samples originals at j = isWithin e (getD samples j (pos 0)) (getD orig
 
 -- "each sample .. lies within E of its original": those of block n
 abbrev pub areNear : List ℤ → List ℕ → (e n : ℕ) → Bool
-areNear originals encoded e n = allBelow 28 (isNear e (samplesOf encoded n) originals (n * 28))
+areNear originals encoded e n = allBelow 28 (isNear e (decodedAt encoded n) originals (n * 28))
 
 -- the end flag
 abbrev pub hasFlag : List ℕ → ℕ → Bool
@@ -68,7 +68,7 @@ isFlagRight encoded n = cond (eqb (n + 1) (blocksOf encoded)) (hasFlag encoded n
 abbrev pub isFilterKnown : List ℕ → ℕ → Bool
 isFilterKnown encoded n = ltb (field 4 3 (byteOf encoded n 0)) 5
 
--- the sentence whole. "An empty sound is a no".
+-- all four clauses; "An empty sound is a no"
 unfoldable pub isYes : List ℤ → List ℕ → ℕ → Bool
 isYes originals encoded e =
     areAsMany originals encoded
@@ -85,7 +85,7 @@ pairsOf originals encoded = min (blocksOf encoded) (groupsOf originals)
 abbrev pub isRight : List ℤ → List ℕ → (e n : ℕ) → Bool
 isRight originals encoded e n = areNear originals encoded e n && (isFlagRight encoded n && isFilterKnown encoded n)
 
--- "where the counts differ, the first block without a partner counts as at fault": if no block before it is. "An empty sound is a no at block 0."
+-- "where the counts differ, the first block without a partner counts as at fault", after those that have one; "An empty sound is a no at block 0"
 unfoldable pub firstFault : List ℤ → List ℕ → ℕ → ℕ
 firstFault originals encoded e = firstBelow (pairsOf originals encoded) (isRight originals encoded e)
 
@@ -97,7 +97,7 @@ brokenAt originals encoded e n =
     record {
       block = n;
       unpaired = false;
-      sample = firstBelow 28 (isNear e (samplesOf encoded n) originals (n * 28));
+      sample = firstBelow 28 (isNear e (decodedAt encoded n) originals (n * 28));
       «end_flag» = not (isFlagRight encoded n);
       filter = not (isFilterKnown encoded n);
     }

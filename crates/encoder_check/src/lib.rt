@@ -8,7 +8,7 @@ ghost use lib.IntN.{pos};
 ghost use Rattle.fixed.specs.Bits.{bit, field};
 ghost use Rattle.fixed.specs.Tests.{firstBelow};
 ghost use Rattle.adpcm.specs.Adpcm.{blockOf};
-ghost use Rattle.encoder_check.specs.Check.{blocksOf, groupsOf, bytesOf, samplesOf, isWithin, isNear, pairsOf, brokenAt, faultOf, verdictOf, answerOf};
+ghost use Rattle.encoder_check.specs.Check.{blocksOf, groupsOf, bytesOf, decodedAt, isWithin, isNear, pairsOf, brokenAt, faultOf, verdictOf, answerOf};
 use adpcm::History;
 
 // The first block at fault, and what it breaks. The sample is the first that is too far from its original, 28 if none is.
@@ -64,7 +64,7 @@ fn is_filter_known(header: u8) -> bool
 
 // What block n breaks, whose samples these are.
 fn judge(originals: &[i16], encoded: &[u8], largest: u16, n: usize, samples: [i16; 28]) -> Fault
-    requires { ⌜ (n < groupsOf (now originals)) × (n < blocksOf (now encoded)) × (samples ≡ samplesOf (now encoded) n) ⌝ }
+    requires { ⌜ (n < groupsOf (now originals)) × (n < blocksOf (now encoded)) × (samples ≡ decodedAt (now encoded) n) ⌝ }
     ensures { λ r. ⌜ r ≡ brokenAt (now (originals .entry)) (now (encoded .entry)) largest n ⌝ }
 {
     let at = n * 16;
