@@ -41,7 +41,7 @@
 extern "C" {
 #endif
 
-#define TENONWHISK_VERSION "0.5.0"
+#define TENONWHISK_VERSION "0.6.0"
 
 /* The length of a state. */
 #define TENONWHISK_STATE_BYTES 2493
@@ -70,6 +70,7 @@ enum tenonwhisk_number {
     TENONWHISK_XA_COPIES = 12,    /* an XA sector's header bytes differ from their copies */
     TENONWHISK_XA_EIGHT_BIT = 13, /* 8-bit XA samples, which are not decoded */
     TENONWHISK_XA_LENGTH = 14,    /* an XA sector, or the buffer for its samples, of another length */
+    TENONWHISK_ENCODER = 23,      /* originals or encoded bytes that do not make whole blocks */
     TENONWHISK_ROOM = 24,         /* the buffer is shorter than the bank to be written */
     TENONWHISK_BUFFERS = 25       /* the buffers of a run do not hold whole pairs, or have different lengths */
 };
@@ -111,6 +112,8 @@ static inline const char *tenonwhisk_words(uint8_t number)
         return "XA samples of 8 bits are not decoded, only those of 4 bits";
     case TENONWHISK_XA_LENGTH:
         return "an XA sector is 2,304 bytes, and its samples are 4,032";
+    case TENONWHISK_ENCODER:
+        return "a block is 16 bytes for 28 samples: the originals or the encoded bytes do not make whole blocks";
     case TENONWHISK_ROOM:
         return "the buffer is shorter than the sound bank to be written";
     case TENONWHISK_BUFFERS:
@@ -393,6 +396,39 @@ struct tenonwhisk_xa_decoded {
 struct tenonwhisk_xa_decoded tenonwhisk_xa_decode(const uint8_t *sector, size_t sector_len, bool stereo, bool eight_bit,
                                                   struct tenonwhisk_xa_histories histories, int16_t *out,
                                                   size_t out_len);
+
+/* ---- a check of encoders */
+
+/* Compares the blocks that an ADPCM encoder made with the samples that it made them of. This call needs no state. */
+
+/* The length of a block, in bytes, and the number of its samples. */
+#define TENONWHISK_BLOCK_BYTES 16
+#define TENONWHISK_BLOCK_SAMPLES 28
+
+/* If refused, all that follows the number is zero. If yes, all that follows yes is zero. If no, it says which block is
+ * the first at fault, and which rules that block breaks: at least one. */
+struct tenonwhisk_encoder_verdict {
+    uint8_t number;
+    bool yes;
+    bool unpaired; /* there is no such block, or there are no originals for it; then no other rule is looked at */
+    bool end_flag; /* it has the end flag and is not the last block, or is the last block and lacks it */
+    bool filter;   /* its filter is 5, 6 or 7 */
+    size_t block;  /* the block's number, from 0 on */
+    size_t sample; /* the first of its samples, from 0 on, that is too far from its original; 28 if none is */
+};
+
+/* Says yes exactly when
+ *
+ *   - there are as many blocks as whole groups of 28 originals, and at least one
+ *   - each sample, decoded with two zero samples before the first, lies at most largest away from its original
+ *   - the last block, and no other, has the end flag (bit 0 of byte 1)
+ *   - no block's filter (bits 4-6 of byte 0) is 5, 6 or 7
+ *
+ * "The last block" is the last one of blocks, however many originals there are. Where the counts differ, the first
+ * block without a partner is at fault; blocks before it are looked at first. Numbers: 0; 23 if originals_len is not a
+ * multiple of TENONWHISK_BLOCK_SAMPLES, or blocks_len not one of TENONWHISK_BLOCK_BYTES. */
+struct tenonwhisk_encoder_verdict tenonwhisk_encoder_check(const int16_t *originals, size_t originals_len,
+                                                           const uint8_t *blocks, size_t blocks_len, uint16_t largest);
 
 #ifdef __cplusplus
 }

@@ -1,5 +1,5 @@
 // The interface in C++: types without the keyword struct, a run without CD, a refusal's words, a sound of a bank, a
-// sector of speech.
+// sector of speech, a block of an encoder.
 #include "tenonwhisk.h"
 
 #include <cstring>
@@ -51,7 +51,19 @@ static bool speech()
            left.older == 0 && refused.number == TENONWHISK_XA_COPIES;
 }
 
+static bool encoder()
+{
+    const int16_t originals[TENONWHISK_BLOCK_SAMPLES] = {0, 3};
+    const uint8_t blocks[TENONWHISK_BLOCK_BYTES] = {0x0C, 1};
+    tenonwhisk_encoder_verdict yes =
+        tenonwhisk_encoder_check(originals, TENONWHISK_BLOCK_SAMPLES, blocks, sizeof blocks, 3);
+    tenonwhisk_encoder_verdict no =
+        tenonwhisk_encoder_check(originals, TENONWHISK_BLOCK_SAMPLES, blocks, sizeof blocks, 2);
+    tenonwhisk_encoder_verdict refused = tenonwhisk_encoder_check(originals, 1, blocks, sizeof blocks, 3);
+    return yes.yes && !no.yes && no.block == 0 && no.sample == 1 && refused.number == TENONWHISK_ENCODER;
+}
+
 int main()
 {
-    return chip() && bank() && speech() ? 0 : 1;
+    return chip() && bank() && speech() && encoder() ? 0 : 1;
 }

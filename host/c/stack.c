@@ -15,7 +15,7 @@
 
 enum { STACK_WORDS = 1 << 17, STACK_BYTES = STACK_WORDS * sizeof(uint32_t), ALIGNMENT = 4096 };
 enum { MAKE = CALLS, CALLS_ON_STATES };
-enum { BANK_FIND = CALLS_ON_STATES, BANK_CHECK, BANK_ENTRY, BANK_WRITE, XA_FRESH, XA_DECODE, ALL_CALLS };
+enum { BANK_FIND = CALLS_ON_STATES, BANK_CHECK, BANK_ENTRY, BANK_WRITE, XA_FRESH, XA_DECODE, ENCODER_CHECK, ALL_CALLS };
 
 static uint32_t *stack;
 static size_t largest[ALL_CALLS];
@@ -89,7 +89,7 @@ static struct outcome run_make(const struct lent *lent)
 static const char *name_of(int which)
 {
     static const char *const others[] = {"make",       "bank_find", "bank_check", "bank_entry",
-                                         "bank_write", "xa_fresh",  "xa_decode"};
+                                         "bank_write", "xa_fresh",  "xa_decode",  "encoder_check"};
     return which < CALLS ? calls[which].name : others[which - CALLS];
 }
 
@@ -309,12 +309,58 @@ static void measure_xa(void)
     }
 }
 
+/* ---- the check of encoders, which needs no state */
+
+enum { BLOCKS = 4096 }; /* the stack does not grow with them */
+
+static struct {
+    int16_t originals[BLOCKS * TENONWHISK_BLOCK_SAMPLES];
+    uint8_t blocks[BLOCKS * TENONWHISK_BLOCK_BYTES];
+    size_t length;  /* of the blocks */
+    uint16_t error; /* the largest that is allowed */
+    bool yes;       /* what the verdict was */
+} encoder;
+
+static struct outcome run_encoder_check(const struct lent *lent)
+{
+    (void)lent;
+    struct tenonwhisk_encoder_verdict verdict = tenonwhisk_encoder_check(
+        encoder.originals, BLOCKS * TENONWHISK_BLOCK_SAMPLES, encoder.blocks, encoder.length, encoder.error);
+    encoder.yes = verdict.yes;
+    return (struct outcome){verdict.number, true};
+}
+
+static void measure_verdict(uint8_t number, bool yes)
+{
+    measure_stateless(ENCODER_CHECK, run_encoder_check, number);
+    check(encoder.yes == yes, "%s says %s", name_of(ENCODER_CHECK), yes ? "yes" : "no");
+}
+
+static void measure_encoder(void)
+{
+    for (uint8_t filter = 0; filter < 8; filter++) {
+        memset(encoder.blocks, filter << 4 | 1, sizeof encoder.blocks);
+        for (size_t n = 0; n < BLOCKS; n++)
+            encoder.blocks[n * TENONWHISK_BLOCK_BYTES + 1] = n + 1 == BLOCKS;
+        encoder.length = sizeof encoder.blocks;
+        encoder.error = UINT16_MAX;
+        measure_verdict(0, filter < 5);
+        encoder.error = 0;
+        measure_verdict(0, false);
+        encoder.length -= TENONWHISK_BLOCK_BYTES;
+        encoder.error = UINT16_MAX;
+        measure_verdict(0, false);
+        encoder.length--;
+        measure_verdict(23, false);
+    }
+}
+
 static void print_largest(void)
 {
     printf("bytes of stack, in %lu calls:\n", runs);
     for (int which = 0; which < ALL_CALLS; which++)
-        printf("%-12s %6zu\n", name_of(which), largest[which]);
-    printf("%-12s %6d\n", "allowed", TENONWHISK_STACK_BYTES);
+        printf("%-13s %6zu\n", name_of(which), largest[which]);
+    printf("%-13s %6d\n", "allowed", TENONWHISK_STACK_BYTES);
 }
 
 int main(void)
@@ -329,6 +375,7 @@ int main(void)
     }
     measure_banks();
     measure_xa();
+    measure_encoder();
     free(stack);
     print_largest();
     return all_passed() ? EXIT_SUCCESS : EXIT_FAILURE;

@@ -4,6 +4,7 @@
 #include "lent.h"
 #include "scenes.h"
 #include "test_banks.h"
+#include "test_encoder.h"
 #include "test_xa.h"
 
 #include <stdio.h>
@@ -725,7 +726,7 @@ static void test_words(void)
     check(strcmp(tenonwhisk_words(TENONWHISK_DONE), "done") == 0, "0 is done");
     for (unsigned number = 0; number <= UINT8_MAX; number++) {
         const char *words = tenonwhisk_words((uint8_t)number);
-        bool given = number <= TENONWHISK_XA_LENGTH || number == TENONWHISK_ROOM || number == TENONWHISK_BUFFERS;
+        bool given = number <= TENONWHISK_XA_LENGTH || (number >= TENONWHISK_ENCODER && number <= TENONWHISK_BUFFERS);
         check((strcmp(words, none) != 0) == given, "words of %u", number);
         for (unsigned other = 0; given && other < number; other++)
             check(strcmp(words, tenonwhisk_words((uint8_t)other)) != 0, "%u and %u differ", number, other);
@@ -766,5 +767,6 @@ int main(int argc, char **argv)
     test_words();
     test_banks();
     test_xa();
+    test_encoder();
     return all_passed() ? EXIT_SUCCESS : EXIT_FAILURE;
 }

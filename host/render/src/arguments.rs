@@ -14,16 +14,17 @@ pub fn split(argument: &OsStr) -> (&[u8], Option<OsString>) {
     }
 }
 
-/// The names of the input, which has a role, and of OUT.
-pub fn two_names(names: Vec<OsString>, role: &str) -> Result<(OsString, OsString), String> {
+/// Two names, each of which has a role.
+pub fn two_names(names: Vec<OsString>, roles: [&str; 2]) -> Result<(OsString, OsString), String> {
+    let [role, other_role] = roles;
     let mut names = names.into_iter();
-    let input = names.next().ok_or_else(|| format!("{role} and OUT are missing"))?;
-    let out = names.next().ok_or("OUT is missing")?;
+    let first = names.next().ok_or_else(|| format!("{role} and {other_role} are missing"))?;
+    let second = names.next().ok_or_else(|| format!("{other_role} is missing"))?;
     match names.next() {
         Some(third) => Err(format!("one name too many: {}", shown(&third))),
-        None if input.is_empty() => Err(format!("the name of {role} is empty")),
-        None if out.is_empty() => Err("the name of OUT is empty".to_owned()),
-        None => Ok((input, out)),
+        None if first.is_empty() => Err(format!("the name of {role} is empty")),
+        None if second.is_empty() => Err(format!("the name of {other_role} is empty")),
+        None => Ok((first, second)),
     }
 }
 

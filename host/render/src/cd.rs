@@ -6,7 +6,7 @@ use std::io::{self, BufReader, Read};
 use crate::failure::Failure;
 use crate::source::Source;
 use crate::wav::{PAIR_BYTES, RATE};
-use crate::wav_in::{self, Extent, Unfit};
+use crate::wav_in::{self, Extent, Wanted};
 use crate::words;
 
 pub struct Cd {
@@ -19,10 +19,9 @@ impl Cd {
         let name = source.name.clone();
         let file = source.open()?;
         let mut input = BufReader::new(file);
-        match wav_in::find_sound(&mut input) {
-            Ok(extent) => Ok(Cd { name, sound: Sound { input, extent, pairs: 0, bytes: Vec::new() } }),
-            Err(Unfit::Unreadable(error)) => Err(Failure::reading(name, &error)),
-            Err(Unfit::Is(words)) => Err(Failure::new(format!("{name} {words}"))),
+        match wav_in::find_sound(&mut input, Wanted::CD) {
+            Ok(found) => Ok(Cd { name, sound: Sound { input, extent: found.extent, pairs: 0, bytes: Vec::new() } }),
+            Err(unfit) => Err(unfit.into_failure(&name)),
         }
     }
 

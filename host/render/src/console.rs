@@ -51,6 +51,12 @@ impl Console {
         self.next_progress = Instant::now() + BETWEEN_PROGRESS;
     }
 
+    /// Clears the progress, so that standard output may follow on the same terminal.
+    pub fn clear(&mut self) {
+        let cleared = self.clearing();
+        put(&cleared);
+    }
+
     /// The characters that clear the progress.
     fn clearing(&mut self) -> String {
         match std::mem::take(&mut self.shown) {

@@ -1,4 +1,4 @@
-//! What the programs `render`, `bank` and `xa` are made of.
+//! What the programs `render`, `bank`, `xa` and `encheck` are made of.
 //!
 //! `render` turns a script into a WAV file. [`options`] reads its command line; [`source`] and [`target`] find out what
 //! the names stand for. [`rendering`] leads a run: [`script`], [`banks`], [`cd`] with [`wav_in`], and [`load`] read, and
@@ -9,8 +9,11 @@
 //!
 //! `xa` decodes XA sectors to a WAV file: [`speech`]. It writes as `render` does.
 //!
+//! `encheck` checks what an encoder made of a WAV file: [`encoding`].
+//!
 //! [`arguments`] takes command lines apart, and [`clashes`] finds names that stand for one file. [`console`], [`failure`]
-//! and [`words`] make messages, [`files`] knows names and links, and [`system`] handles signals.
+//! and [`words`] make messages, [`files`] knows names and links, [`whole`] reads all of a file, and [`system`] handles
+//! signals.
 
 #![deny(unsafe_code)]
 
@@ -20,6 +23,7 @@ pub mod cd;
 pub mod clashes;
 pub mod console;
 pub mod damage;
+pub mod encoding;
 pub mod failure;
 pub mod files;
 pub mod findings;
@@ -37,4 +41,5 @@ pub mod target;
 pub mod temporary;
 pub mod wav;
 pub mod wav_in;
+pub mod whole;
 pub mod words;

@@ -101,7 +101,7 @@ pub fn parse(arguments: impl IntoIterator<Item = OsString>) -> Result<Request, S
             _ => names.push(argument),
         }
     }
-    let (script, out) = two_names(names, "SCRIPT")?;
+    let (script, out) = two_names(names, ["SCRIPT", "OUT"])?;
     Ok(Request::Render(Options { size, cd, title, house, script, out }))
 }
 

@@ -1,4 +1,4 @@
-//! Where a script, the CD, a sound bank or XA sectors are read from.
+//! Where a script, the CD, a sound bank, XA sectors or the two files of a check are read from.
 
 use std::ffi::OsStr;
 use std::fs::{self, File};

@@ -6,6 +6,14 @@ mod bank;
 mod banks;
 #[path = "cli/cd.rs"]
 mod cd;
+#[path = "cli/encheck.rs"]
+mod encheck;
+#[path = "cli/encheck_files.rs"]
+mod encheck_files;
+#[path = "cli/encheck_usage.rs"]
+mod encheck_usage;
+#[path = "cli/encoded.rs"]
+mod encoded;
 #[path = "cli/folder.rs"]
 mod folder;
 #[path = "cli/lines.rs"]

@@ -82,6 +82,17 @@ pub struct Decoded {
     pub histories: Histories,
 }
 
+#[repr(C)]
+pub struct Verdict {
+    pub number: u8,
+    pub yes: bool,
+    pub unpaired: bool,
+    pub end_flag: bool,
+    pub filter: bool,
+    pub block: usize,
+    pub sample: usize,
+}
+
 #[rustfmt::skip]
 unsafe extern "C" {
     fn tenonwhisk_make(size: u32, state: *mut u8, state_len: usize) -> u8;
@@ -130,6 +141,9 @@ unsafe extern "C" {
         sector: *const u8, sector_len: usize, stereo: bool, eight_bit: bool, histories: Histories,
         out: *mut i16, out_len: usize,
     ) -> Decoded;
+    fn tenonwhisk_encoder_check(
+        originals: *const i16, originals_len: usize, blocks: *const u8, blocks_len: usize, largest: u16,
+    ) -> Verdict;
 }
 
 pub fn make(size: u32, state: &mut [u8]) -> u8 {
@@ -314,4 +328,9 @@ pub fn xa_decode(sector: &[u8], stereo: bool, eight_bit: bool, histories: Histor
     unsafe {
         tenonwhisk_xa_decode(sector.as_ptr(), sector.len(), stereo, eight_bit, histories, out.as_mut_ptr(), out.len())
     }
+}
+
+pub fn encoder_check(originals: &[i16], blocks: &[u8], largest: u16) -> Verdict {
+    // SAFETY: pointers and lengths are those of slices, which are only read.
+    unsafe { tenonwhisk_encoder_check(originals.as_ptr(), originals.len(), blocks.as_ptr(), blocks.len(), largest) }
 }

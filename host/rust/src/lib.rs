@@ -1,8 +1,8 @@
 //! Tenonwhisk: a proved core of an old console's sound chip (SPU), over its C interface (`tenonwhisk.h`).
 //!
 //! [`Spu`] is the chip with its sound RAM, owned or lent. [`State`] is the rest of the chip, as plain bytes. [`bank`]
-//! looks up sounds in sound banks and writes banks. [`xa`] decodes speech. A call that is refused returns a [`Refusal`]
-//! and changes nothing.
+//! looks up sounds in sound banks and writes banks. [`xa`] decodes speech. [`encoder`] checks what an encoder made. A
+//! call that is refused returns a [`Refusal`] and changes nothing.
 //!
 //! The crate links the archive that the environment variable `TENONWHISK_LIB` names at build time. Without that variable
 //! it links `target/host/libtenonwhisk.a` of its repository, which `host/build` makes. The archive is for x86-64 Linux.
@@ -23,6 +23,7 @@
 extern crate alloc;
 
 pub mod bank;
+pub mod encoder;
 #[allow(unsafe_code)]
 mod ffi;
 mod refusal;

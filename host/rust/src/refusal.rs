@@ -38,6 +38,8 @@ pub enum Refusal {
     XaEightBit = 13,
     /// 14: an XA sector, or the buffer for its samples, of another length.
     XaLength = 14,
+    /// 23: originals or encoded bytes that do not make whole blocks.
+    Encoder = 23,
     /// 24: the buffer is shorter than the sound bank to be written.
     Room = 24,
     /// 25: the buffers of a run do not hold whole pairs, or have different lengths.
@@ -68,6 +70,7 @@ impl Refusal {
             12 => Refusal::XaCopies,
             13 => Refusal::XaEightBit,
             14 => Refusal::XaLength,
+            23 => Refusal::Encoder,
             24 => Refusal::Room,
             25 => Refusal::Buffers,
             _ => unreachable!("the library gives no other number"),
@@ -104,6 +107,9 @@ impl fmt::Display for Refusal {
             Refusal::XaCopies => "the XA sector is damaged: header bytes of a sound group differ from their copies",
             Refusal::XaEightBit => "XA samples of 8 bits are not decoded, only those of 4 bits",
             Refusal::XaLength => "an XA sector is 2,304 bytes, and its samples are 4,032",
+            Refusal::Encoder => {
+                "a block is 16 bytes for 28 samples: the originals or the encoded bytes do not make whole blocks"
+            }
             Refusal::Room => "the buffer is shorter than the sound bank to be written",
             Refusal::Buffers => "the buffers do not hold whole pairs, or have different lengths",
         })

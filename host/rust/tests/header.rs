@@ -1,10 +1,10 @@
 //! What the crate and `tenonwhisk.h` say twice.
 
-use tenonwhisk::{bank, xa, Refusal, State, VERSION};
+use tenonwhisk::{bank, encoder, xa, Refusal, State, VERSION};
 
 const HEADER: &str = include_str!("../../tenonwhisk.h");
 
-const REFUSALS: [(&str, Refusal); 16] = [
+const REFUSALS: [(&str, Refusal); 17] = [
     ("MEMORY", Refusal::Memory),
     ("STATE", Refusal::State),
     ("OFFSET", Refusal::Offset),
@@ -19,6 +19,7 @@ const REFUSALS: [(&str, Refusal); 16] = [
     ("XA_COPIES", Refusal::XaCopies),
     ("XA_EIGHT_BIT", Refusal::XaEightBit),
     ("XA_LENGTH", Refusal::XaLength),
+    ("ENCODER", Refusal::Encoder),
     ("ROOM", Refusal::Room),
     ("BUFFERS", Refusal::Buffers),
 ];
@@ -70,4 +71,10 @@ fn banks() {
 fn speech() {
     assert_eq!(between("#define TENONWHISK_XA_SECTOR_BYTES ", "\n"), xa::SECTOR_BYTES.to_string());
     assert_eq!(between("#define TENONWHISK_XA_SAMPLES ", "\n"), xa::SAMPLES.to_string());
+}
+
+#[test]
+fn blocks() {
+    assert_eq!(between("#define TENONWHISK_BLOCK_BYTES ", "\n"), encoder::BLOCK_BYTES.to_string());
+    assert_eq!(between("#define TENONWHISK_BLOCK_SAMPLES ", "\n"), encoder::BLOCK_SAMPLES.to_string());
 }

@@ -117,7 +117,7 @@ pub fn parse(arguments: impl IntoIterator<Item = OsString>) -> Result<Request, S
             _ => names.push(argument),
         }
     }
-    let (file, out) = two_names(names, "FILE")?;
+    let (file, out) = two_names(names, ["FILE", "OUT"])?;
     Ok(Request::Decode(Options { sector, channel, channels, rate, file, out }))
 }
 

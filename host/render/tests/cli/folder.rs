@@ -9,6 +9,7 @@ use std::process::{Command, Output, Stdio};
 pub const RENDER: &str = env!("CARGO_BIN_EXE_render");
 pub const BANK: &str = env!("CARGO_BIN_EXE_bank");
 pub const XA: &str = env!("CARGO_BIN_EXE_xa");
+pub const ENCHECK: &str = env!("CARGO_BIN_EXE_encheck");
 
 /// A tenth of a second of silence.
 pub const SILENCE: &str = "t 4410\n";
@@ -101,10 +102,15 @@ impl Folder {
         ran(self.command(XA, arguments).output().unwrap())
     }
 
-    /// Runs a command of the shell, in which `$RENDER`, `$BANK` and `$XA` are the programs.
+    pub fn encheck(&self, arguments: &[&str]) -> Ran {
+        ran(self.command(ENCHECK, arguments).output().unwrap())
+    }
+
+    /// Runs a command of the shell, in which `$RENDER`, `$BANK`, `$XA` and `$ENCHECK` are the programs.
     pub fn shell(&self, line: &str) -> Ran {
         let mut command = self.command("sh", &["-c", line]);
-        ran(command.env("RENDER", RENDER).env("BANK", BANK).env("XA", XA).output().unwrap())
+        command.env("RENDER", RENDER).env("BANK", BANK).env("XA", XA).env("ENCHECK", ENCHECK);
+        ran(command.output().unwrap())
     }
 
     /// A WAV file that an earlier run made.
@@ -131,6 +137,13 @@ impl Ran {
     #[track_caller]
     pub fn is(&self, status: i32, said: &str) {
         assert_eq!((self.status, self.said.as_str()), (Some(status), said));
+    }
+
+    /// It printed this, and said nothing on standard error.
+    #[track_caller]
+    pub fn printed(&self, status: i32, text: &str) {
+        self.is(status, "");
+        assert_eq!(std::str::from_utf8(&self.out), Ok(text));
     }
 }
 

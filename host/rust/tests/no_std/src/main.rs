@@ -1,5 +1,5 @@
-//! Ends with status 0 if a chip over lent memory makes its ticks, a sound bank is written and read, and a sector of
-//! speech is decoded.
+//! Ends with status 0 if a chip over lent memory makes its ticks, a sound bank is written and read, a sector of speech is
+//! decoded, and a block of an encoder is checked.
 
 #![no_std]
 #![no_main]
@@ -7,6 +7,7 @@
 use core::panic::PanicInfo;
 
 use tenonwhisk::bank::{self, Entry};
+use tenonwhisk::encoder::{self, Verdict};
 use tenonwhisk::xa::{self, Bits, Channels, Histories};
 use tenonwhisk::{Refusal, Size, Spu, State};
 
@@ -34,9 +35,17 @@ fn first_sample() -> Result<i16, Refusal> {
     Ok(out[0])
 }
 
+fn verdict() -> Result<Verdict, Refusal> {
+    let mut block = [0; encoder::BLOCK_BYTES];
+    block[1] = 1;
+    encoder::check(&[5; encoder::BLOCK_SAMPLES], &block, 5)
+}
+
 #[no_mangle]
 extern "C" fn main() -> i32 {
-    i32::from(ticks() != Ok(10) || sound_bytes() != Ok(16) || first_sample() != Ok(0x7000))
+    let good =
+        ticks() == Ok(10) && sound_bytes() == Ok(16) && first_sample() == Ok(0x7000) && verdict() == Ok(Verdict::Yes);
+    i32::from(!good)
 }
 
 #[panic_handler]
