@@ -31,6 +31,13 @@ judge-requires c κs =
 is-broken-requires : tie.Need-is-broken-requires Inv-loop μ-loop
 is-broken-requires c κs = search needs
 
+loop-again : tie.Need-loop-again Inv-loop μ-loop
+loop-again c =
+    let f = c .before in
+    let j = f .before .before in
+    let v = j .before .before .before .loop .inv in
+    (omega arith, v .1, searched-more _ _ _ (v .2) (omega arith) (j .judge .ensures) (f .before .is-broken .ensures) (search needs) (j .before .samples-at .ensures) (search needs) (c .last-two .ensures))
+
 returns : tie.Need-returns Inv-loop μ-loop
 returns c =
     let j = c .before .before in
@@ -45,13 +52,6 @@ add-n c = search needs
 
 loop-less : tie.Need-loop-less Inv-loop μ-loop
 loop-less c = search needs
-
-loop-again : tie.Need-loop-again Inv-loop μ-loop
-loop-again c =
-    let f = c .before in
-    let j = f .before .before in
-    let v = j .before .before .before .loop .inv in
-    (omega arith, v .1, searched-more _ _ _ (v .2) (omega arith) (j .judge .ensures) (f .before .is-broken .ensures) (search needs) (j .before .samples-at .ensures) (search needs) (c .last-two .ensures))
 
 returns-2 : tie.Need-returns-2 Inv-loop μ-loop
 returns-2 c = let v = c .before .loop .inv in fault-none _ _ _ (v .2) (v .1) (v .0) (c .loop-test .left)
