@@ -1,0 +1,99 @@
+-- What the code reads out of a buffer, as the state that stands in it has it. Assumes nothing.
+use mathlib.Core.Path.{_≡_, refl, sym, ap, _∙_}
+use mathlib.Core.List.{List, [], _∷_, _++_}
+use Prim.Native.Nat.{ℕ, suc, _+_, _*_, _-_, _≤_, _<_}
+use native.Mathlib.Omega.{arith}
+use borrow.Author.Tests.{leb-true}
+use lib.Dec.{eqb}
+use lib.IntN.{ℤ, pos}
+use lib.ListN.{length, getD, take, set}
+use lib.Seq.{take-all, take-suc-set}
+use Rattle.fixed.specs.Signed.{signed}
+use Rattle.envelope.specs.declared.Phase.{Phase}
+use Rattle.envelope.specs.declared.Envelope.{Envelope}
+use Rattle.soundram.specs.declared.ByteAddress.{ByteAddress}
+use Rattle.voice.specs.declared.Source.{Source}
+use Rattle.voice.specs.declared.Position.{Position}
+use Rattle.voice.specs.declared.Playing.{Playing}
+use Rattle.voice.specs.declared.Voice.{Voice}
+use Rattle.voices.specs.Voices.{pastEnd}
+use Rattle.layout.specs.Layout.{listOf, region, registersAt, place, rowOf, partsOf, wide, phaseOf, voiceFrom, stateFrom, stateOf, isRow, Formed}
+use Rattle.layout.proofs.Laws.{list-same, region-at, place-high, row-at, voice-at, form-row, first-of, skip}
+
+-- ---- a list that a loop fills
+
+module _ {A : Type 0} (f : ℕ → A) where
+  pub filled-none : [] ≡ listOf f 0
+  unfolding listOf
+  filled-none = refl
+
+  pub filled-more : (n : ℕ) (xs : List A) {x : A} → n < length xs → take n xs ≡ listOf f n → x ≡ f n → take (n + 1) (set xs n x) ≡ listOf f (n + 1)
+  unfolding listOf
+  filled-more n xs {x} h e g = let q : n + 1 ≡ suc n = omega arith in rw (q, take-suc-set xs n x h, e, g)
+
+  pub filled-all : (n k : ℕ) {xs : List A} → length xs ≡ k → take n xs ≡ listOf f n → n ≤ k → k ≤ n → xs ≡ listOf f k
+  filled-all n k {xs} l e h g = let q : n ≡ k = omega arith in sym (take-all n xs (omega arith)) ∙ e ∙ ap (listOf f) q
+
+-- ---- the head and the registers
+
+module _ (xs : List ℕ) where
+  pub size-is : {r : ℕ} → r ≡ wide (getD xs 2 0) (getD xs 3 0) → r ≡ stateOf xs .choices .size
+  unfolding stateOf stateFrom partsOf
+  size-is e = rw (region-at 0 4 xs 2 (omega arith), region-at 0 4 xs 3 (omega arith)) e
+
+  pub registers-are : {r : List ℕ} → r ≡ listOf (λ k. getD xs (registersAt + k) 0) 256 → r ≡ stateOf xs .regs
+  unfolding stateOf stateFrom partsOf region
+  registers-are e = e
+
+-- ---- voice n
+
+module _ (xs : List ℕ) (n : ℕ) (h : n < 24) where
+  abbrev here : Voice
+  here = getD (stateOf xs .voices) n pastEnd
+
+  pub envelope-is : {p : Phase} {w : ℕ} → p ≡ phaseOf (getD xs (260 + n) 0) → w ≡ wide (getD xs (308 + n) 0) (getD xs (332 + n) 0)
+      → record { phase = p; level = getD xs (284 + n) 0; wait = w } ≡ here .envelope
+  unfolding voiceFrom place
+  envelope-is e f =
+      rw (e, f, voice-at xs n h, row-at xs n 0 (omega arith), row-at xs n 1 (omega arith), row-at xs n 2 (omega arith), row-at xs n 3 (omega arith))
+
+  pub source-is : {a : ByteAddress} → a ≡ record { 0 = getD xs (404 + n) 0 * 8 } → record { address = a; repeat = record { 0 = getD xs (428 + n) 0 } } ≡ here .source
+  unfolding voiceFrom place
+  source-is e = rw (e, voice-at xs n h, row-at xs n 6 (omega arith), row-at xs n 7 (omega arith))
+
+  pub index-is : here .position .index ≡ getD xs (380 + n) 0
+  unfolding voiceFrom place
+  index-is = rw (voice-at xs n h, row-at xs n 5 (omega arith))
+
+  pub index-byte : here .position .index ≤ 27 → getD xs (380 + n) 0 ≤ 0xFF
+  index-byte i = let e = index-is in omega arith
+
+  pub position-is : {i : ℕ} → i ≡ getD xs (380 + n) 0 → record { counter = getD xs (356 + n) 0; index = i } ≡ here .position
+  unfolding voiceFrom place
+  position-is e = rw (e, voice-at xs n h, row-at xs n 4 (omega arith), row-at xs n 5 (omega arith))
+
+  samples-row : listOf (λ k. signed 16 (getD xs (524 + n * 31 + k) 0)) 31 ≡ listOf (λ k. signed 16 (getD (rowOf xs n) (11 + k) 0)) 31
+  samples-row =
+      list-same (pos 0) (λ k. signed 16 (getD (rowOf xs n) (11 + k) 0)) (λ k. signed 16 (getD xs (524 + n * 31 + k) 0)) 31
+      (λ k l.
+      let q : 524 + n * 31 + k ≡ 524 + n * 31 + (11 + k - 11) = omega arith in
+      ap (signed 16) (rw (row-at xs n (11 + k) (omega arith), place-high n (11 + k) (omega arith), q)))
+
+  pub flags-byte : Formed xs → getD xs (476 + n) 0 ≤ 0xFF
+  unfolding isRow place
+  flags-byte e =
+      let l : getD (rowOf xs n) 9 0 ≤ 0xFF = leb-true _ _ (first-of _ _ (skip _ _ (skip _ _ (form-row xs n (e .form) h)))) in
+      rw (row-at xs n 9 (omega arith)) at l
+
+  pub playing-is : {f : ℕ} {s : List ℤ} → f ≡ getD xs (476 + n) 0 → s ≡ listOf (λ k. signed 16 (getD xs (524 + n * 31 + k) 0)) 31
+      → record { loaded = eqb (getD xs (452 + n) 0) 1; flags = f; samples = s } ≡ here .playing
+  unfolding voiceFrom place
+  playing-is e f = rw (e, f, samples-row, voice-at xs n h, row-at xs n 8 (omega arith), row-at xs n 9 (omega arith))
+
+  ended-is : eqb (getD xs (500 + n) 0) 1 ≡ here .ended
+  unfolding voiceFrom place
+  ended-is = rw (voice-at xs n h, row-at xs n 10 (omega arith))
+
+  pub voice-is : {e : Envelope} {s : Source} {p : Position} {y : Playing} → e ≡ here .envelope → s ≡ here .source → p ≡ here .position → y ≡ here .playing
+      → record { envelope = e; source = s; position = p; playing = y; ended = eqb (getD xs (500 + n) 0) 1 } ≡ here
+  voice-is e s p y = rw (e, s, p, y, ended-is)

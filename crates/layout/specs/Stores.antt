@@ -1,0 +1,58 @@
+-- What the functions that put parts of a state in place promise. Assumes nothing.
+use mathlib.Core.Path.{_≡_}
+use mathlib.Core.List.{List}
+use Prim.Native.Nat.{ℕ, zero, suc, _+_, _-_, _<_}
+use lib.IntN.{ℤ, pos}
+use lib.ListN.{length, getD, set}
+use Rattle.fixed.specs.Range.{In}
+use Rattle.fixed.specs.Signed.{bitsOf}
+use Rattle.envelope.specs.declared.Envelope.{Envelope}
+use Rattle.noise.specs.declared.Noise.{Noise}
+use Rattle.voice.specs.declared.Voice.{Voice}
+use Rattle.voice.specs.Voice.{withEnvelope, withPosition}
+use Rattle.chip.specs.declared.Control.{Control}
+use Rattle.chip.specs.declared.Reverb.{Reverb}
+use Rattle.chip.specs.declared.State.{State}
+use Rattle.layout.specs.Layout.{place, tailAt}
+
+-- k words of voice n from the word first on, each f of its number, put one after another
+unfoldable pub putWords : (ℕ → ℕ) → ℕ → ℕ → List ℕ → ℕ → List ℕ
+putWords f n first xs zero = xs
+putWords f n first xs (suc k) = set (putWords f n first xs k) (place n (first + k)) (f (first + k))
+
+-- k halfwords after the voices, from the first on
+unfoldable pub putTail : (ℕ → ℕ) → ℕ → List ℕ → ℕ → List ℕ
+putTail f first xs zero = xs
+putTail f first xs (suc k) = set (putTail f first xs k) (tailAt + (first + k)) (f (first + k))
+
+-- what the types fix of samples
+pub record Samples (xs : List ℤ) : Type 0 where
+  pub count : length xs ≡ 31
+  pub in16 : (n : ℕ) → n < 31 → In 0x8000 0x7FFF (getD xs n (pos 0))
+
+-- word w of a voice with these samples, from word 11 on
+abbrev pub sampleWord : List ℤ → ℕ → ℕ
+sampleWord xs w = bitsOf 16 (getD xs (w - 11) (pos 0))
+
+-- the state with what a run changes besides the voices
+abbrev pub withRest : State → Noise → Control → ℕ → Reverb → ℕ → State
+withRest s noise control capture reverb tick =
+    record {
+      choices = s .choices;
+      regs = s .regs;
+      voices = s .voices;
+      noise = noise;
+      control = control;
+      capture = capture;
+      reverb = reverb;
+      transfer = s .transfer;
+      tick = tick;
+    }
+
+-- a voice after a tick in its block: its envelope and its position are others
+abbrev pub steppedVoice : Voice → Envelope → ℕ → ℕ → Voice
+steppedVoice v e counter index = withPosition (withEnvelope v e) counter index
+
+-- or its envelope waits on
+abbrev pub stayedVoice : Voice → ℕ → ℕ → ℕ → Voice
+stayedVoice v wait counter index = steppedVoice v (record { phase = v .envelope .phase; level = v .envelope .level; wait = wait }) counter index
