@@ -6,13 +6,13 @@ use lib.IntN.{ℤ, pos}
 use lib.ListN.{length, getD, set}
 use Rattle.fixed.specs.Range.{In}
 use Rattle.fixed.specs.Signed.{bitsOf}
-use Rattle.envelope.specs.declared.Envelope.{Envelope}
 use Rattle.noise.specs.declared.Noise.{Noise}
 use Rattle.voice.specs.declared.Voice.{Voice}
-use Rattle.voice.specs.Voice.{withEnvelope, withPosition}
+use Rattle.voice.specs.Voice.{withEnvelope}
 use Rattle.chip.specs.declared.Control.{Control}
 use Rattle.chip.specs.declared.Reverb.{Reverb}
 use Rattle.chip.specs.declared.State.{State}
+use Rattle.chip.specs.State.{withVoices}
 use Rattle.layout.specs.Layout.{place, tailAt}
 
 -- k words of voice n from the word first on, each f of its number, put one after another
@@ -49,10 +49,21 @@ withRest s noise control capture reverb tick =
       tick = tick;
     }
 
--- a voice after a tick in its block: its envelope and its position are others
-abbrev pub steppedVoice : Voice → Envelope → ℕ → ℕ → Voice
-steppedVoice v e counter index = withPosition (withEnvelope v e) counter index
+-- the state with another voice n
+abbrev pub withVoice : State → ℕ → Voice → State
+withVoice s n v = withVoices s (set (s .voices) n v)
 
--- or its envelope waits on
-abbrev pub stayedVoice : Voice → ℕ → ℕ → ℕ → Voice
-stayedVoice v wait counter index = steppedVoice v (record { phase = v .envelope .phase; level = v .envelope .level; wait = wait }) counter index
+-- a voice whose envelope waits on
+abbrev pub withWait : Voice → ℕ → Voice
+withWait v wait = withEnvelope v (record { phase = v .envelope .phase; level = v .envelope .level; wait = wait })
+
+-- and one that repeats at another unit
+abbrev pub withRepeat : Voice → ℕ → Voice
+withRepeat v value =
+    record {
+      envelope = v .envelope;
+      source = record { address = v .source .address; repeat = record { 0 = value } };
+      position = v .position;
+      playing = v .playing;
+      ended = v .ended;
+    }

@@ -1,13 +1,13 @@
 // The state in the buffer that a caller lends, 1,284 halfwords: where each part stands, read and put in place.
 ghost use mathlib.Core.Path.{_≡_};
-ghost use Prim.Native.Nat.{_+_, _*_, _≤_, _<_, _%_};
+ghost use Prim.Native.Nat.{_+_, _*_, _/_, _%_, _≤_, _<_};
 ghost use lib.ListN.{length, getD, set};
 ghost use Rattle.fixed.specs.Signed.{signed};
-ghost use Rattle.chip.specs.State.{withVoices, withTransfer, watchOf};
-ghost use Rattle.chip.specs.Range.{CaptureIn};
+ghost use Rattle.chip.specs.State.{withRegs};
 ghost use Rattle.voices.specs.Voices.{pastEnd};
 ghost use Rattle.layout.specs.Layout.{stateLength, Formed, stateOf, Holds, wide as wideOf, lowHalf, highHalf, phaseOf, phaseNumber, listOf};
-ghost use Rattle.layout.specs.Stores.{putWords, putTail, sampleWord, Samples, withRest, steppedVoice, stayedVoice};
+ghost use Rattle.voice.specs.Voice.{withEnvelope, withPosition};
+ghost use Rattle.layout.specs.Stores.{putWords, sampleWord, Samples, withVoice, withWait, withRepeat};
 use chip::Control;
 use chip::Held;
 use chip::Reverb;
@@ -190,4 +190,116 @@ pub fn voice(state: &[u16], n: usize) -> Voice
         playing,
         ended: state[ENDED + n] == 1,
     }
+}
+
+// ---- put
+
+fn put_words(state: &mut [u16], n: usize, words: &[u16; 11])
+    requires { ⌜ (n < 24) × (length (now state) ≡ stateLength) ⌝ }
+    ensures { λ _. ⌜ now (state .exit) ≡ putWords (λ w. getD (now (words .entry)) w 0) n 0 (now (state .entry)) 11 ⌝ }
+{
+    for w in 0..11usize {
+        state[PHASES + w * 24 + n] = words[w];
+    }
+}
+
+fn put_samples(state: &mut [u16], n: usize, samples: [i16; 31])
+    requires { ⌜ (n < 24) × (length (now state) ≡ stateLength) ⌝ }
+    ensures { λ _. ⌜ (now (state .exit) ≡ putWords (sampleWord samples) n 11 (now (state .entry)) 31) × Samples samples ⌝ }
+{
+    for k in 0..31usize {
+        state[SAMPLES + n * 31 + k] = fixed::to_bits(samples[k]);
+    }
+}
+
+fn phase_number(p: Phase) -> u16
+    ensures { λ r. ⌜ r ≡ phaseNumber p ⌝ }
+{
+    match p {
+        Phase::Idle => 0,
+        Phase::Attack => 1,
+        Phase::Decay => 2,
+        Phase::Sustain => 3,
+        Phase::Release => 4,
+        Phase::Off => 5,
+    }
+}
+
+// The unit of an address.
+fn unit(a: ByteAddress) -> u16
+    requires { ⌜ a .0 < 0x80000 ⌝ }
+    ensures { λ r. ⌜ r ≡ a .0 / 8 ⌝ }
+{
+    (a.0 / 8) as u16
+}
+
+// Voice n becomes another.
+pub fn put_voice(state: &mut [u16], n: usize, v: Voice)
+    requires { ⌜ (n < 24) × Formed (now state) × (v .source .address .0 % 8 ≡ 0) × (v .source .address .0 < 0x80000) ⌝ }
+    ensures { λ _. ⌜ Holds (now (state .exit)) (withVoice (stateOf (now (state .entry))) n v) ⌝ }
+{
+    let e = v.envelope;
+    let phase = e.phase;
+    let p = phase_number(phase);
+    let all = [
+        p,
+        v.envelope.level,
+        low(v.envelope.wait),
+        high(v.envelope.wait),
+        v.position.counter,
+        v.position.index as u16,
+        unit(v.source.address),
+        v.source.repeat.0,
+        v.playing.loaded as u16,
+        v.playing.flags as u16,
+        v.ended as u16,
+    ];
+    put_words(state, n, &all);
+    let samples = v.playing.samples;
+    put_samples(state, n, samples);
+}
+
+// Its envelope alone.
+pub fn put_envelope(state: &mut [u16], n: usize, e: Envelope)
+    requires { ⌜ (n < 24) × Formed (now state) ⌝ }
+    ensures { λ _. ⌜ Holds (now (state .exit)) (withVoice (stateOf (now (state .entry))) n (withEnvelope (getD (stateOf (now (state .entry)) .voices) n pastEnd) e)) ⌝ }
+{
+    let phase = e.phase;
+    let p = phase_number(phase);
+    state[PHASES + n] = p;
+    state[LEVELS + n] = e.level;
+    state[WAITS + n] = low(e.wait);
+    state[WAITS_HIGH + n] = high(e.wait);
+}
+
+// The pitch counter and the sample index of voice n.
+pub fn put_position(state: &mut [u16], n: usize, counter: u16, index: u16)
+    requires { ⌜ (n < 24) × Formed (now state) ⌝ }
+    ensures { λ _. ⌜ Holds (now (state .exit)) (withVoice (stateOf (now (state .entry))) n (withPosition (getD (stateOf (now (state .entry)) .voices) n pastEnd) counter index)) ⌝ }
+{
+    state[COUNTERS + n] = counter;
+    state[INDICES + n] = index;
+}
+
+// The wait of its envelope.
+pub fn put_wait(state: &mut [u16], n: usize, wait: u32)
+    requires { ⌜ (n < 24) × Formed (now state) ⌝ }
+    ensures { λ _. ⌜ Holds (now (state .exit)) (withVoice (stateOf (now (state .entry))) n (withWait (getD (stateOf (now (state .entry)) .voices) n pastEnd) wait)) ⌝ }
+{
+    state[WAITS + n] = low(wait);
+    state[WAITS_HIGH + n] = high(wait);
+}
+
+pub fn put_repeat(state: &mut [u16], n: usize, value: u16)
+    requires { ⌜ (n < 24) × Formed (now state) ⌝ }
+    ensures { λ _. ⌜ Holds (now (state .exit)) (withVoice (stateOf (now (state .entry))) n (withRepeat (getD (stateOf (now (state .entry)) .voices) n pastEnd) value)) ⌝ }
+{
+    state[REPEATS + n] = value;
+}
+
+pub fn put_register(state: &mut [u16], i: usize, value: u16)
+    requires { ⌜ (i < 256) × Formed (now state) ⌝ }
+    ensures { λ _. ⌜ Holds (now (state .exit)) (withRegs (stateOf (now (state .entry))) (set (stateOf (now (state .entry)) .regs) i value)) ⌝ }
+{
+    state[REGISTERS + i] = value;
 }
