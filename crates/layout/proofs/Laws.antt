@@ -389,13 +389,31 @@ hold-register xs i v e h =
     let p = parts-register xs i v h (e .size) in
     record { formed = formed _ (rw (tagged-set xs (registersAt + i) v (form-tagged xs (e .form)) (omega arith), p, form-rows xs (e .form)) (form-tail xs (e .form))); state = rw p }
 
--- a halfword after the voices stored
-pub hold-tail : (xs : List ℕ) (j v : ℕ) → Formed xs → j < tailLength → isTail (set (partsOf xs .tail) j v) ≡ true
-    → Holds (set xs (tailAt + j) v) (stateFrom (withTail (partsOf xs) (set (partsOf xs .tail) j v)))
+-- halfwords after the voices stored, one after another
+
+pub tail-length : (f : ℕ → ℕ) (first : ℕ) (xs : List ℕ) (k : ℕ) → length (putTail f first xs k) ≡ length xs
+unfolding putTail
+tail-length f first xs zero = refl
+tail-length f first xs (suc k) = length-set (putTail f first xs k) (tailAt + (first + k)) (f (first + k)) ∙ tail-length f first xs k
+
+tail-tagged : (f : ℕ → ℕ) (first : ℕ) (xs : List ℕ) (k : ℕ) → isTagged xs ≡ true → isTagged (putTail f first xs k) ≡ true
+unfolding putTail
+tail-tagged f first xs zero e = e
+tail-tagged f first xs (suc k) e = tagged-set (putTail f first xs k) (tailAt + (first + k)) (f (first + k)) (tail-tagged f first xs k e) (omega arith)
+
+parts-tails : (f : ℕ → ℕ) (first : ℕ) (xs : List ℕ) (k : ℕ) → first + k ≤ tailLength → length xs ≡ stateLength
+    → partsOf (putTail f first xs k) ≡ withTail (partsOf xs) (setWords f first (partsOf xs .tail) k)
+unfolding putTail setWords
+parts-tails f first xs zero h l = refl
+parts-tails f first xs (suc k) h l =
+    parts-tail (putTail f first xs k) (first + k) (f (first + k)) (omega arith) (tail-length f first xs k ∙ l) ∙ rw (parts-tails f first xs k (omega arith) l)
+
+pub hold-tails : (f : ℕ → ℕ) (xs : List ℕ) (first k : ℕ) {ys : List ℕ} {s : State} → Formed xs → first + k ≤ tailLength → isTail (setWords f first (partsOf xs .tail) k) ≡ true
+    → putTail f first xs k ≡ ys → stateFrom (withTail (partsOf xs) (setWords f first (partsOf xs .tail) k)) ≡ s → Holds ys s
 unfolding isWellFormed areParts stateOf
-hold-tail xs j v e h s =
-    let p = parts-tail xs j v h (e .size) in
-    record { formed = formed _ (rw (tagged-set xs (tailAt + j) v (form-tagged xs (e .form)) (omega arith), p, form-rows xs (e .form)) s); state = rw p }
+hold-tails f xs first k e h t p q =
+    let r = parts-tails f first xs k h (e .size) in
+    rw (← p, ← q) (record { formed = formed _ (rw (tail-tagged f first xs k (form-tagged xs (e .form)), r, form-rows xs (e .form)) t); state = rw r })
 
 -- words of a voice stored one after another
 pub hold-words : (f : ℕ → ℕ) (xs : List ℕ) (n first k : ℕ) → Formed xs → n < 24 → first + k ≤ 42 → isRow (setWords f first (rowOf xs n) k) ≡ true

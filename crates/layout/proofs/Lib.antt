@@ -1,3 +1,4 @@
 pub mod Laws
 pub mod Read
 pub mod Put
+pub mod Tail

@@ -7,12 +7,13 @@ use lib.ListN.{length, getD, set}
 use Rattle.fixed.specs.Range.{In}
 use Rattle.fixed.specs.Signed.{bitsOf}
 use Rattle.noise.specs.declared.Noise.{Noise}
+use Rattle.soundram.specs.declared.ByteAddress.{ByteAddress}
 use Rattle.voice.specs.declared.Voice.{Voice}
 use Rattle.voice.specs.Voice.{withEnvelope}
 use Rattle.chip.specs.declared.Control.{Control}
 use Rattle.chip.specs.declared.Reverb.{Reverb}
 use Rattle.chip.specs.declared.State.{State}
-use Rattle.chip.specs.State.{withVoices}
+use Rattle.chip.specs.State.{withVoices, withReverb}
 use Rattle.layout.specs.Layout.{place, tailAt}
 
 -- k words of voice n from the word first on, each f of its number, put one after another
@@ -48,6 +49,13 @@ withRest s noise control capture reverb tick =
       transfer = s .transfer;
       tick = tick;
     }
+
+abbrev pub withNoise : State → Noise → State
+withNoise s noise = withRest s noise (s .control) (s .capture) (s .reverb) (s .tick)
+
+-- with another place of the reverb
+abbrev pub withPlace : State → ByteAddress → State
+withPlace s a = withReverb s (record { place = a; right = s .reverb .right; held = s .reverb .held })
 
 -- the state with another voice n
 abbrev pub withVoice : State → ℕ → Voice → State

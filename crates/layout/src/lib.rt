@@ -3,11 +3,12 @@ ghost use mathlib.Core.Path.{_≡_};
 ghost use Prim.Native.Nat.{_+_, _*_, _/_, _%_, _≤_, _<_};
 ghost use lib.ListN.{length, getD, set};
 ghost use Rattle.fixed.specs.Signed.{signed};
-ghost use Rattle.chip.specs.State.{withRegs};
+ghost use Rattle.registers.specs.Map.{registerAt};
+ghost use Rattle.chip.specs.State.{withRegs, withControl, withTransfer, watchOf, watchedOf};
 ghost use Rattle.voices.specs.Voices.{pastEnd};
 ghost use Rattle.layout.specs.Layout.{stateLength, Formed, stateOf, Holds, wide as wideOf, lowHalf, highHalf, phaseOf, phaseNumber, listOf};
 ghost use Rattle.voice.specs.Voice.{withEnvelope, withPosition};
-ghost use Rattle.layout.specs.Stores.{putWords, sampleWord, Samples, withVoice, withWait, withRepeat};
+ghost use Rattle.layout.specs.Stores.{putWords, sampleWord, Samples, putTail, withVoice, withWait, withRepeat, withNoise, withPlace, withRest};
 use chip::Control;
 use chip::Held;
 use chip::Reverb;
@@ -23,24 +24,59 @@ use voice::Source;
 use voice::Voice;
 
 pub const LENGTH: usize = 1284;
+
 pub const TAG: u16 = 0x5754;
+
 pub const VERSION: u16 = 0x32;
 
 // Where each part begins: the registers, the arrays over the voices, the samples of voice 0, and what follows the voices.
 pub const REGISTERS: usize = 4;
+
 pub const PHASES: usize = 260;
+
 pub const LEVELS: usize = 284;
+
 pub const WAITS: usize = 308;
+
 pub const WAITS_HIGH: usize = 332;
+
 pub const COUNTERS: usize = 356;
+
 pub const INDICES: usize = 380;
+
 pub const UNITS: usize = 404;
+
 pub const REPEATS: usize = 428;
+
 pub const LOADED: usize = 452;
+
 pub const FLAGS: usize = 476;
+
 pub const ENDED: usize = 500;
+
 pub const SAMPLES: usize = 524;
-pub const TAIL: usize = 1268;
+
+pub const NOISE: usize = 1268;
+
+pub const TIMER: usize = 1269;
+
+pub const APPLIED: usize = 1271;
+
+pub const LATCH: usize = 1272;
+
+pub const DOUBT: usize = 1273;
+
+pub const CAPTURE: usize = 1274;
+
+pub const PLACE: usize = 1275;
+
+pub const RIGHT: usize = 1277;
+
+pub const HELD: usize = 1278;
+
+pub const TICK: usize = 1280;
+
+pub const TRANSFER: usize = 1282;
 
 // A number of 32 bits, of its halves, and each of these.
 
@@ -192,6 +228,106 @@ pub fn voice(state: &[u16], n: usize) -> Voice
     }
 }
 
+// What follows the voices.
+
+pub fn noise(state: &[u16]) -> Noise
+    requires { ⌜ length (now state) ≡ stateLength ⌝ }
+    ensures { λ r. ⌜ r ≡ stateOf (now (state .entry)) .noise ⌝ }
+{
+    let timer = wide(state[TIMER], state[TIMER + 1]);
+    Noise {
+        level: state[NOISE],
+        timer,
+    }
+}
+
+pub fn control(state: &[u16]) -> Control
+    requires { ⌜ length (now state) ≡ stateLength ⌝ }
+    ensures { λ r. ⌜ r ≡ stateOf (now (state .entry)) .control ⌝ }
+{
+    Control {
+        applied: state[APPLIED],
+        latch: state[LATCH] == 1,
+        doubt: state[DOUBT] == 1,
+    }
+}
+
+fn double(x: u16) -> u16
+    requires { ⌜ x * 2 < 0x10000 ⌝ }
+    ensures { λ r. ⌜ r ≡ x * 2 ⌝ }
+{
+    x * 2
+}
+
+pub fn capture(state: &[u16]) -> u16
+    requires { ⌜ (length (now state) ≡ stateLength) × (stateOf (now state) .capture < 0x400) ⌝ }
+    ensures { λ r. ⌜ r ≡ stateOf (now (state .entry)) .capture ⌝ }
+{
+    double(state[CAPTURE])
+}
+
+// The address of a halfword, whose number stands in two halves.
+fn address_of(low: u16, high: u16) -> ByteAddress
+    requires { ⌜ wideOf low high * 2 < 0x80000 ⌝ }
+    ensures { λ r. ⌜ r ≡ record { 0 = wideOf low high * 2 } ⌝ }
+{
+    ByteAddress(wide(low, high) * 2)
+}
+
+pub fn reverb(state: &[u16]) -> Reverb
+    requires { ⌜ (length (now state) ≡ stateLength) × (stateOf (now state) .reverb .place .0 < 0x80000) ⌝ }
+    ensures { λ r. ⌜ r ≡ stateOf (now (state .entry)) .reverb ⌝ }
+{
+    let place = address_of(state[PLACE], state[PLACE + 1]);
+    let held = Held {
+        left: fixed::to_signed(state[HELD]),
+        right: fixed::to_signed(state[HELD + 1]),
+    };
+    Reverb {
+        place,
+        right: state[RIGHT] == 1,
+        held,
+    }
+}
+
+pub fn transfer(state: &[u16]) -> ByteAddress
+    requires { ⌜ (length (now state) ≡ stateLength) × (stateOf (now state) .transfer .0 < 0x80000) ⌝ }
+    ensures { λ r. ⌜ r ≡ stateOf (now (state .entry)) .transfer ⌝ }
+{
+    address_of(state[TRANSFER], state[TRANSFER + 1])
+}
+
+pub fn tick(state: &[u16]) -> u32
+    requires { ⌜ length (now state) ≡ stateLength ⌝ }
+    ensures { λ r. ⌜ r ≡ stateOf (now (state .entry)) .tick ⌝ }
+{
+    wide(state[TICK], state[TICK + 1])
+}
+
+// A register, by its offset.
+pub fn register(state: &[u16], offset: usize) -> u16
+    requires { ⌜ (length (now state) ≡ stateLength) × (offset < 512) ⌝ }
+    ensures { λ r. ⌜ r ≡ registerAt (stateOf (now (state .entry)) .regs) offset ⌝ }
+{
+    state[REGISTERS + offset / 2]
+}
+
+// What accesses watch.
+pub fn watch(state: &[u16]) -> Watch
+    requires { ⌜ (length (now state) ≡ stateLength) × (0 < stateOf (now state) .choices .size) ⌝ }
+    ensures { λ r. ⌜ r ≡ watchOf (stateOf (now (state .entry))) ⌝ }
+{
+    let spucnt = register(state, 0x1AA);
+    let a = soundram::address_of(size(state), UnitAddress(register(state, 0x1A4)));
+    let c = control(state);
+    Watch {
+        armed: (spucnt / 0x8000 % 2 == 1) & (spucnt / 0x40 % 2 == 1),
+        halfword: a.0 / 2,
+        latch: c.latch,
+        doubt: c.doubt,
+    }
+}
+
 // ---- put
 
 fn put_words(state: &mut [u16], n: usize, words: &[u16; 11])
@@ -302,4 +438,88 @@ pub fn put_register(state: &mut [u16], i: usize, value: u16)
     ensures { λ _. ⌜ Holds (now (state .exit)) (withRegs (stateOf (now (state .entry))) (set (stateOf (now (state .entry)) .regs) i value)) ⌝ }
 {
     state[REGISTERS + i] = value;
+}
+
+pub fn put_noise(state: &mut [u16], noise: Noise)
+    requires { ⌜ Formed (now state) ⌝ }
+    ensures { λ _. ⌜ Holds (now (state .exit)) (withNoise (stateOf (now (state .entry))) noise) ⌝ }
+{
+    state[NOISE] = noise.level;
+    state[TIMER] = low(noise.timer);
+    state[TIMER + 1] = high(noise.timer);
+}
+
+pub fn put_control(state: &mut [u16], control: Control)
+    requires { ⌜ Formed (now state) ⌝ }
+    ensures { λ _. ⌜ Holds (now (state .exit)) (withControl (stateOf (now (state .entry))) control) ⌝ }
+{
+    state[APPLIED] = control.applied;
+    state[LATCH] = control.latch as u16;
+    state[DOUBT] = control.doubt as u16;
+}
+
+// What was watched.
+pub fn put_watch(state: &mut [u16], w: Watch)
+    requires { ⌜ Formed (now state) ⌝ }
+    ensures { λ _. ⌜ Holds (now (state .exit)) (watchedOf (stateOf (now (state .entry))) w) ⌝ }
+{
+    state[LATCH] = w.latch as u16;
+    state[DOUBT] = w.doubt as u16;
+}
+
+// The reverb's place.
+pub fn put_place(state: &mut [u16], a: ByteAddress)
+    requires { ⌜ Formed (now state) × (a .0 % 2 ≡ 0) ⌝ }
+    ensures { λ _. ⌜ Holds (now (state .exit)) (withPlace (stateOf (now (state .entry))) a) ⌝ }
+{
+    state[PLACE] = low(a.0 / 2);
+    state[PLACE + 1] = high(a.0 / 2);
+}
+
+pub fn put_transfer(state: &mut [u16], a: ByteAddress)
+    requires { ⌜ Formed (now state) × (a .0 % 2 ≡ 0) ⌝ }
+    ensures { λ _. ⌜ Holds (now (state .exit)) (withTransfer (stateOf (now (state .entry))) a) ⌝ }
+{
+    state[TRANSFER] = low(a.0 / 2);
+    state[TRANSFER + 1] = high(a.0 / 2);
+}
+
+fn put_tail(state: &mut [u16], words: &[u16; 14])
+    requires { ⌜ length (now state) ≡ stateLength ⌝ }
+    ensures { λ _. ⌜ now (state .exit) ≡ putTail (λ i. getD (now (words .entry)) i 0) 0 (now (state .entry)) 14 ⌝ }
+{
+    for i in 0..14usize {
+        state[NOISE + i] = words[i];
+    }
+}
+
+// What a run of ticks changes besides the voices.
+pub fn put_rest(
+    state: &mut [u16],
+    noise: Noise,
+    control: Control,
+    capture: u16,
+    reverb: Reverb,
+    tick: u32,
+)
+    requires { ⌜ Formed (now state) × (capture % 2 ≡ 0) × (reverb .place .0 % 2 ≡ 0) ⌝ }
+    ensures { λ _. ⌜ Holds (now (state .exit)) (withRest (stateOf (now (state .entry))) noise control capture reverb tick) ⌝ }
+{
+    let all = [
+        noise.level,
+        low(noise.timer),
+        high(noise.timer),
+        control.applied,
+        control.latch as u16,
+        control.doubt as u16,
+        capture / 2,
+        low(reverb.place.0 / 2),
+        high(reverb.place.0 / 2),
+        reverb.right as u16,
+        fixed::to_bits(reverb.held.left),
+        fixed::to_bits(reverb.held.right),
+        low(tick),
+        high(tick),
+    ];
+    put_tail(state, &all);
 }

@@ -40,22 +40,22 @@ put-words-requires c κs = let z = c .before .before .before .before .before .be
 
 put-samples-requires : tie.Need-put-samples-requires
 put-samples-requires c κs =
-  let w = c .before .before .before .before in
-  let z = w .before .before .before .before .before .before .before .before .before .before .before .before .before in
-  (z .pre .0, ap length (w .put-words .ensures) ∙ words-length _ _ _ _ _ ∙ z .pre .1 .size)
+    let w = c .before .before .before .before in
+    let z = w .before .before .before .before .before .before .before .before .before .before .before .before .before in
+    (z .pre .0, ap length (w .put-words .ensures) ∙ words-length _ _ _ _ _ ∙ z .pre .1 .size)
 
 same-length : tie.Need-same-length
 same-length c = search needs
 
 returns : tie.Need-returns
 returns c =
-  let s = c .before .before in
-  let w = s .before .before .before .before .before in
-  let u = w .before .before .before .before .before .before in
-  let h = u .before .before in
-  let p = h .before .before in
-  let z = p .before .before .before in
-  voice-holds _ _ (z .args .v) (z .pre .0) (z .pre .1) (z .pre .2) (flags z) (p .phase-number .ensures) (h .before .low .ensures) (h .high .ensures) (u .unit .ensures) (w .put-words .ensures) (s .put-samples .ensures .0) (s .put-samples .ensures .1)
+    let s = c .before .before in
+    let w = s .before .before .before .before .before in
+    let u = w .before .before .before .before .before .before in
+    let h = u .before .before in
+    let p = h .before .before in
+    let z = p .before .before .before in
+    voice-holds _ _ (z .args .v) (z .pre .0) (z .pre .1) (z .pre .2) (flags z) (p .phase-number .ensures) (h .before .low .ensures) (h .high .ensures) (u .unit .ensures) (w .put-words .ensures) (s .put-samples .ensures .0) (s .put-samples .ensures .1)
 
 pub put-voice-spec : {M : Type 1} → statement M
 put-voice-spec =
