@@ -18,7 +18,7 @@ use Rattle.voice.specs.declared.Playing.{Playing}
 use Rattle.voice.specs.declared.Voice.{Voice}
 use Rattle.voices.specs.Voices.{pastEnd}
 use Rattle.layout.specs.Layout.{listOf, region, registersAt, place, rowOf, partsOf, wide, phaseOf, voiceFrom, stateFrom, stateOf, isRow, Formed}
-use Rattle.layout.proofs.Laws.{list-same, region-at, place-high, row-at, voice-at, form-row, first-of, skip}
+use Rattle.layout.proofs.Laws.{list-at, list-same, region-at, place-high, row-at, voice-at, form-row, first-of, skip}
 
 -- ---- a list that a loop fills
 
@@ -72,6 +72,14 @@ module _ (xs : List ℕ) (n : ℕ) (h : n < 24) where
   unfolding voiceFrom place
   position-is e = rw (e, voice-at xs n h, row-at xs n 4 (omega arith), row-at xs n 5 (omega arith))
 
+  pub level-is : getD xs (284 + n) 0 ≡ here .envelope .level
+  unfolding voiceFrom place
+  level-is = rw (voice-at xs n h, row-at xs n 1 (omega arith))
+
+  pub loaded-is : eqb (getD xs (452 + n) 0) 1 ≡ here .playing .loaded
+  unfolding voiceFrom place
+  loaded-is = rw (voice-at xs n h, row-at xs n 8 (omega arith))
+
   samples-row : listOf (λ k. signed 16 (getD xs (524 + n * 31 + k) 0)) 31 ≡ listOf (λ k. signed 16 (getD (rowOf xs n) (11 + k) 0)) 31
   samples-row =
       list-same (pos 0) (λ k. signed 16 (getD (rowOf xs n) (11 + k) 0)) (λ k. signed 16 (getD xs (524 + n * 31 + k) 0)) 31
@@ -90,7 +98,11 @@ module _ (xs : List ℕ) (n : ℕ) (h : n < 24) where
   unfolding voiceFrom place
   playing-is e f = rw (e, f, samples-row, voice-at xs n h, row-at xs n 8 (omega arith), row-at xs n 9 (omega arith))
 
-  ended-is : eqb (getD xs (500 + n) 0) 1 ≡ here .ended
+  pub sample-is : (k : ℕ) → k < 31 → {r : ℤ} → r ≡ signed 16 (getD xs (524 + n * 31 + k) 0) → r ≡ getD (here .playing .samples) k (pos 0)
+  unfolding voiceFrom
+  sample-is k l e = e ∙ sym (rw (voice-at xs n h, ← samples-row) (list-at (λ k. signed 16 (getD xs (524 + n * 31 + k) 0)) 31 k (pos 0) l))
+
+  pub ended-is : eqb (getD xs (500 + n) 0) 1 ≡ here .ended
   unfolding voiceFrom place
   ended-is = rw (voice-at xs n h, row-at xs n 10 (omega arith))
 

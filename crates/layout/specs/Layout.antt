@@ -125,6 +125,10 @@ stateFrom p =
 unfoldable pub stateOf : List ℕ → State
 stateOf xs = stateFrom (partsOf xs)
 
+-- its voice n
+abbrev pub voiceIn : List ℕ → ℕ → Voice
+voiceIn xs n = getD (stateOf xs .voices) n pastEnd
+
 -- ---- which buffers are states
 
 -- of a state's length, with its tag

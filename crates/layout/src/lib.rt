@@ -1,12 +1,12 @@
 // The state in the buffer that a caller lends, 1,284 halfwords: where each part stands, read and put in place.
 ghost use mathlib.Core.Path.{_≡_};
 ghost use Prim.Native.Nat.{_+_, _*_, _/_, _%_, _≤_, _<_};
+ghost use lib.IntN.{pos};
 ghost use lib.ListN.{length, getD, set};
 ghost use Rattle.fixed.specs.Signed.{signed};
 ghost use Rattle.registers.specs.Map.{registerAt};
 ghost use Rattle.chip.specs.State.{withRegs, withControl, withTransfer, watchOf, watchedOf};
-ghost use Rattle.voices.specs.Voices.{pastEnd};
-ghost use Rattle.layout.specs.Layout.{stateLength, Formed, stateOf, Holds, wide as wideOf, lowHalf, highHalf, phaseOf, phaseNumber, listOf};
+ghost use Rattle.layout.specs.Layout.{stateLength, Formed, stateOf, voiceIn, Holds, wide as wideOf, lowHalf, highHalf, phaseOf, phaseNumber, listOf};
 ghost use Rattle.voice.specs.Voice.{withEnvelope, withPosition};
 ghost use Rattle.layout.specs.Stores.{putWords, sampleWord, Samples, putTail, withVoice, withWait, withRepeat, withNoise, withPlace, withRest};
 use chip::Control;
@@ -156,7 +156,7 @@ pub fn registers(state: &[u16]) -> [u16; 256]
 
 pub fn envelope(state: &[u16], n: usize) -> Envelope
     requires { ⌜ (n < 24) × (length (now state) ≡ stateLength) ⌝ }
-    ensures { λ r. ⌜ r ≡ getD (stateOf (now (state .entry)) .voices) n pastEnd .envelope ⌝ }
+    ensures { λ r. ⌜ r ≡ voiceIn (now (state .entry)) n .envelope ⌝ }
 {
     let phase = phase_of(state[PHASES + n]);
     let wait = wide(state[WAITS + n], state[WAITS_HIGH + n]);
@@ -165,6 +165,29 @@ pub fn envelope(state: &[u16], n: usize) -> Envelope
         level: state[LEVELS + n],
         wait,
     }
+}
+
+pub fn level(state: &[u16], n: usize) -> u16
+    requires { ⌜ (n < 24) × (length (now state) ≡ stateLength) ⌝ }
+    ensures { λ r. ⌜ r ≡ voiceIn (now (state .entry)) n .envelope .level ⌝ }
+{
+    state[LEVELS + n]
+}
+
+// Sample k of voice n.
+pub fn sample(state: &[u16], n: usize, k: usize) -> i16
+    requires { ⌜ (n < 24) × (k < 31) × (length (now state) ≡ stateLength) ⌝ }
+    ensures { λ r. ⌜ r ≡ getD (voiceIn (now (state .entry)) n .playing .samples) k (pos 0) ⌝ }
+{
+    fixed::to_signed(state[SAMPLES + n * 31 + k])
+}
+
+// Whether voice n has a block.
+pub fn loaded(state: &[u16], n: usize) -> bool
+    requires { ⌜ (n < 24) × (length (now state) ≡ stateLength) ⌝ }
+    ensures { λ r. ⌜ r ≡ voiceIn (now (state .entry)) n .playing .loaded ⌝ }
+{
+    state[LOADED + n] == 1
 }
 
 fn samples(state: &[u16], n: usize) -> [i16; 31]
@@ -180,7 +203,7 @@ fn samples(state: &[u16], n: usize) -> [i16; 31]
 
 fn source(state: &[u16], n: usize) -> Source
     requires { ⌜ (n < 24) × (length (now state) ≡ stateLength) ⌝ }
-    ensures { λ r. ⌜ r ≡ getD (stateOf (now (state .entry)) .voices) n pastEnd .source ⌝ }
+    ensures { λ r. ⌜ r ≡ voiceIn (now (state .entry)) n .source ⌝ }
 {
     Source {
         address: address(state[UNITS + n]),
@@ -188,9 +211,9 @@ fn source(state: &[u16], n: usize) -> Source
     }
 }
 
-fn position(state: &[u16], n: usize) -> Position
-    requires { ⌜ (n < 24) × (length (now state) ≡ stateLength) × (getD (stateOf (now state) .voices) n pastEnd .position .index ≤ 27) ⌝ }
-    ensures { λ r. ⌜ r ≡ getD (stateOf (now (state .entry)) .voices) n pastEnd .position ⌝ }
+pub fn position(state: &[u16], n: usize) -> Position
+    requires { ⌜ (n < 24) × (length (now state) ≡ stateLength) × (voiceIn (now state) n .position .index ≤ 27) ⌝ }
+    ensures { λ r. ⌜ r ≡ voiceIn (now (state .entry)) n .position ⌝ }
 {
     Position {
         counter: state[COUNTERS + n],
@@ -200,7 +223,7 @@ fn position(state: &[u16], n: usize) -> Position
 
 fn playing(state: &[u16], n: usize) -> Playing
     requires { ⌜ (n < 24) × Formed (now state) ⌝ }
-    ensures { λ r. ⌜ r ≡ getD (stateOf (now (state .entry)) .voices) n pastEnd .playing ⌝ }
+    ensures { λ r. ⌜ r ≡ voiceIn (now (state .entry)) n .playing ⌝ }
 {
     let samples = samples(state, n);
     Playing {
@@ -212,8 +235,8 @@ fn playing(state: &[u16], n: usize) -> Playing
 
 // Voice n, copied out.
 pub fn voice(state: &[u16], n: usize) -> Voice
-    requires { ⌜ (n < 24) × Formed (now state) × (getD (stateOf (now state) .voices) n pastEnd .position .index ≤ 27) ⌝ }
-    ensures { λ r. ⌜ r ≡ getD (stateOf (now (state .entry)) .voices) n pastEnd ⌝ }
+    requires { ⌜ (n < 24) × Formed (now state) × (voiceIn (now state) n .position .index ≤ 27) ⌝ }
+    ensures { λ r. ⌜ r ≡ voiceIn (now (state .entry)) n ⌝ }
 {
     let envelope = envelope(state, n);
     let source = source(state, n);
@@ -398,7 +421,7 @@ pub fn put_voice(state: &mut [u16], n: usize, v: Voice)
 // Its envelope alone.
 pub fn put_envelope(state: &mut [u16], n: usize, e: Envelope)
     requires { ⌜ (n < 24) × Formed (now state) ⌝ }
-    ensures { λ _. ⌜ Holds (now (state .exit)) (withVoice (stateOf (now (state .entry))) n (withEnvelope (getD (stateOf (now (state .entry)) .voices) n pastEnd) e)) ⌝ }
+    ensures { λ _. ⌜ Holds (now (state .exit)) (withVoice (stateOf (now (state .entry))) n (withEnvelope (voiceIn (now (state .entry)) n) e)) ⌝ }
 {
     let phase = e.phase;
     let p = phase_number(phase);
@@ -411,7 +434,7 @@ pub fn put_envelope(state: &mut [u16], n: usize, e: Envelope)
 // The pitch counter and the sample index of voice n.
 pub fn put_position(state: &mut [u16], n: usize, counter: u16, index: u16)
     requires { ⌜ (n < 24) × Formed (now state) ⌝ }
-    ensures { λ _. ⌜ Holds (now (state .exit)) (withVoice (stateOf (now (state .entry))) n (withPosition (getD (stateOf (now (state .entry)) .voices) n pastEnd) counter index)) ⌝ }
+    ensures { λ _. ⌜ Holds (now (state .exit)) (withVoice (stateOf (now (state .entry))) n (withPosition (voiceIn (now (state .entry)) n) counter index)) ⌝ }
 {
     state[COUNTERS + n] = counter;
     state[INDICES + n] = index;
@@ -420,7 +443,7 @@ pub fn put_position(state: &mut [u16], n: usize, counter: u16, index: u16)
 // The wait of its envelope.
 pub fn put_wait(state: &mut [u16], n: usize, wait: u32)
     requires { ⌜ (n < 24) × Formed (now state) ⌝ }
-    ensures { λ _. ⌜ Holds (now (state .exit)) (withVoice (stateOf (now (state .entry))) n (withWait (getD (stateOf (now (state .entry)) .voices) n pastEnd) wait)) ⌝ }
+    ensures { λ _. ⌜ Holds (now (state .exit)) (withVoice (stateOf (now (state .entry))) n (withWait (voiceIn (now (state .entry)) n) wait)) ⌝ }
 {
     state[WAITS + n] = low(wait);
     state[WAITS_HIGH + n] = high(wait);
@@ -428,7 +451,7 @@ pub fn put_wait(state: &mut [u16], n: usize, wait: u32)
 
 pub fn put_repeat(state: &mut [u16], n: usize, value: u16)
     requires { ⌜ (n < 24) × Formed (now state) ⌝ }
-    ensures { λ _. ⌜ Holds (now (state .exit)) (withVoice (stateOf (now (state .entry))) n (withRepeat (getD (stateOf (now (state .entry)) .voices) n pastEnd) value)) ⌝ }
+    ensures { λ _. ⌜ Holds (now (state .exit)) (withVoice (stateOf (now (state .entry))) n (withRepeat (voiceIn (now (state .entry)) n) value)) ⌝ }
 {
     state[REPEATS + n] = value;
 }

@@ -1,6 +1,8 @@
 // What a voice gives in a tick.
 ghost use mathlib.Core.Path.{_≡_};
 ghost use Prim.Native.Nat.{_≤_};
+ghost use lib.IntN.{pos};
+ghost use Rattle.fixed.specs.Arithmetic.{productOf};
 ghost use Rattle.gauss.specs.Gauss.{table as factors};
 ghost use Rattle.voice.specs.Voice.{soundOf, amplitudeOf};
 use voice::Settings;
@@ -27,11 +29,18 @@ fn sound(table: &[i16; 512], s: Settings, level: u16, v: Voice) -> i16
     )
 }
 
+// It, scaled by the envelope's level.
+pub fn scaled(x: i16, level: u16) -> i16
+    requires { ⌜ level ≤ 0x7FFF ⌝ }
+    ensures { λ r. ⌜ r ≡ productOf x (pos level) ⌝ }
+{
+    fixed::product(x as i32, level as i16) as i16
+}
+
 // The amplitude, with the envelope before its step.
 pub fn amplitude(table: &[i16; 512], s: Settings, level: u16, v: Voice) -> i16
     requires { ⌜ (now table ≡ factors) × (v .position .index ≤ 27) × (v .envelope .level ≤ 0x7FFF) ⌝ }
     ensures { λ r. ⌜ r ≡ amplitudeOf s level v ⌝ }
 {
-    let x = sound(table, s, level, v) as i32;
-    fixed::product(x, v.envelope.level as i16) as i16
+    scaled(sound(table, s, level, v), v.envelope.level)
 }

@@ -1,0 +1,24 @@
+-- What the registers say of a voice in most ticks. Assumes nothing.
+use mathlib.Core.Path.{_≡_}
+use mathlib.Core.Bool.{cond, false, _||_}
+use mathlib.Core.List.{List}
+use Prim.Native.Nat.{ℕ, _<_}
+use lib.ListN.{getD}
+use lib.IntN.{pos}
+use Rattle.pitch.specs.Pitch.{stepOf}
+use Rattle.voice.specs.declared.Settings.{Settings}
+use Rattle.voices.specs.Voices.{settingsOf}
+
+-- of the settings of a voice, t has what every tick looks at as s has it; its envelope's rates may be others
+pub record Toned (s t : Settings) : Type 0 where
+  pub pitch : t .pitch ≡ s .pitch
+  pub modulated : t .modulated ≡ s .modulated
+  pub noise : t .noise ≡ s .noise
+
+-- the pitch step of a voice that plays its samples and is not modulated, whatever the voice below gives; FFFFh, which is no step, of any other
+unfoldable pub steadyOf : Settings → ℕ
+steadyOf s = cond (s .noise || s .modulated) 0xFFFF (stepOf (s .pitch) false (pos 0))
+
+-- those of all voices
+pub record Steps (regs steps : List ℕ) : Type 0 where
+  pub each : (n : ℕ) → n < 24 → getD steps n 0 ≡ steadyOf (settingsOf regs n)
