@@ -3,4 +3,5 @@ pub mod Halfwords
 pub mod Programs
 pub mod Blocks
 pub mod TwoRuns
+pub mod Times
 pub mod Calls

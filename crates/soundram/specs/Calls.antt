@@ -1,10 +1,12 @@
 -- Lists of calls on a state, and when two runs of one list cannot be told apart: demand 3, of any machine whose calls are programs.
 -- Assumes nothing.
 use mathlib.Core.Path.{_≡_}
-use mathlib.Core.Bool.{Bool, true, false, _&&_, not}
-use mathlib.Core.List.{List, [], _∷_}
-use Prim.Native.Nat.{ℕ}
+use mathlib.Core.Bool.{Bool, true, false, cond, _&&_, not}
+use mathlib.Core.List.{List, [], _∷_, _++_}
+use Prim.Native.Nat.{ℕ, zero, suc}
+use lib.Dec.{eqb}
 use lib.ListN.{length}
+use lib.IntN.{ℤ}
 use Rattle.soundram.specs.Memory.{marked}
 use Rattle.soundram.specs.Program.{Prog, memOf, run, Access, trace, anyUnmarked}
 use Rattle.soundram.specs.TwoRuns.{AgreeAt, Safe}
@@ -14,10 +16,17 @@ pub record Reply (A S : Type 0) : Type 0 where
   pub answer : A
   pub state : S
 
--- what a call does: it answers at once, as a refused call does, and touches no memory; or it works on what is lent
+-- what a call does each time that it works, of the time's number, and of the samples and the state that the time before it left
+abbrev pub Time : Type 0 → Type 0
+Time S = ℕ → Reply (List ℤ) S → Prog (Reply (List ℤ) S)
+
+-- what a call does: it answers at once, as a refused call does, and touches no memory; or it works on what is lent; or it works so many times in a row, each
+-- on what the time before it left, and fills a list of samples: its answer is made of the times that reported the interrupt and the doubt, or of the number
+-- of all times where none did, and of the samples
 pub data Doing (A S : Type 0) : Type 0 where
   still : A → S → Doing A S
   works : Prog (Reply A S) → Doing A S
+  repeats : ℕ → Time S → List ℤ → (ℕ → ℕ → List ℤ → A) → Doing A S
 
 -- a machine: what each call does to a state, of RAM and marks of these lengths; and the part of a state that its accesses watch
 pub record Machine (C A S : Type 0) : Type 1 where
@@ -36,11 +45,50 @@ pub record Outcome (A S : Type 0) : Type 0 where
   pub marks : List ℕ
   pub accesses : List Access
 
+-- a call that works many times, so far: the state, RAM and marks that the last time left, the samples, the times that reported, and the accesses of all
+pub record Times (S : Type 0) : Type 0 where
+  pub state : S
+  pub ram : List ℕ
+  pub marks : List ℕ
+  pub out : List ℤ
+  pub irq : ℕ
+  pub doubt : ℕ
+  pub accesses : List Access
+
+-- before the first of n times
+abbrev pub startOf : {S : Type 0} → ℕ → S → List ℕ → List ℕ → List ℤ → Times S
+startOf n s ram marks out = record { state = s; ram = ram; marks = marks; out = out; irq = n; doubt = n; accesses = [] }
+
+-- once time k gave o
+abbrev pub withTime : {S : Type 0} → ℕ → Outcome (List ℤ) S → Times S → Times S
+withTime k o t =
+    record {
+      state = o .state;
+      ram = o .ram;
+      marks = o .marks;
+      out = o .answer;
+      irq = cond (o .irq) k (t .irq);
+      doubt = cond (o .doubt) k (t .doubt);
+      accesses = t .accesses ++ o .accesses;
+    }
+
+-- what n times give: the call reports what one of them reported
+abbrev pub endOf : {A S : Type 0} → ℕ → (ℕ → ℕ → List ℤ → A) → Times S → Outcome A S
+endOf n end t =
+    record {
+      answer = end (t .irq) (t .doubt) (t .out);
+      irq = not (eqb (t .irq) n);
+      doubt = not (eqb (t .doubt) n);
+      state = t .state;
+      ram = t .ram;
+      marks = t .marks;
+      accesses = t .accesses;
+    }
+
 module _ {C A S : Type 0} (M : Machine C A S) where
-  -- "the call that sets it reports it, later ones do not"
-  unfoldable pub outcome : Doing A S → S → List ℕ → List ℕ → Outcome A S
-  outcome (still a t) s ram marks = record { answer = a; irq = false; doubt = false; state = t; ram = ram; marks = marks; accesses = [] }
-  outcome (works p) s ram marks =
+  -- what a program gives and leaves, from the state that it finds; "the call that sets it reports it, later ones do not"
+  unfoldable pub workedOf : {B : Type 0} → Prog (Reply B S) → S → List ℕ → List ℕ → Outcome B S
+  workedOf p s ram marks =
       let m = memOf ram marks (M .watch s) in
       let r = run p m in
       record {
@@ -52,6 +100,20 @@ module _ {C A S : Type 0} (M : Machine C A S) where
         marks = r .mem .marks;
         accesses = trace p m;
       }
+
+  -- time k
+  unfoldable pub timeOf : Time S → ℕ → Times S → Times S
+  timeOf f k t = withTime k (workedOf (f k (record { answer = t .out; state = t .state })) (t .state) (t .ram) (t .marks)) t
+
+  -- k times
+  unfoldable pub timesOf : Time S → ℕ → Times S → Times S
+  timesOf f zero t = t
+  timesOf f (suc k) t = timeOf f k (timesOf f k t)
+
+  unfoldable pub outcome : Doing A S → S → List ℕ → List ℕ → Outcome A S
+  outcome (still a t) s ram marks = record { answer = a; irq = false; doubt = false; state = t; ram = ram; marks = marks; accesses = [] }
+  outcome (works p) s ram marks = workedOf p s ram marks
+  outcome (repeats n f out end) s ram marks = endOf n end (timesOf f n (startOf n s ram marks out))
 
   -- the outcomes of a list of calls, each on what the one before it left
   unfoldable pub log : List C → S → List ℕ → List ℕ → List (Outcome A S)
@@ -92,6 +154,7 @@ pub data Indistinct {A S : Type 0} : List (Outcome A S) → List (Outcome A S) �
 abbrev pub SafeDoing : {A S : Type 0} → Doing A S → Type 0
 SafeDoing (still a s) = Unit {0}
 SafeDoing (works p) = Safe p
+SafeDoing {S} (repeats n f out end) = (k : ℕ) (r : Reply (List ℤ) S) → Safe (f k r)
 
 pub record Sound {C A S : Type 0} (M : Machine C A S) : Type 0 where
   pub safe : (c : C) (s : S) (n m : ℕ) → SafeDoing (M .step c s n m)
