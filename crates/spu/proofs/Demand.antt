@@ -5,17 +5,22 @@ use mathlib.Core.List.{List}
 use Prim.Native.Nat.{ℕ}
 use lib.Dec.{eqb}
 use lib.ListN.{length}
+use lib.IntN.{ℤ}
 use Rattle.soundram.specs.Memory.{marked}
-use Rattle.soundram.specs.TwoRuns.{AgreeAt}
-use Rattle.soundram.specs.Calls.{Doing, still, works, log, Indistinct, SafeDoing, Sound}
+use Rattle.soundram.specs.TwoRuns.{AgreeAt, Safe}
+use Rattle.soundram.specs.Calls.{Reply, Doing, still, works, repeats, log, Indistinct, SafeDoing, Sound}
 use Rattle.soundram.proofs.TwoRuns.{safe-done, safe-bind}
 use Rattle.soundram.proofs.Calls as calls
 use Rattle.chip.specs.declared.State.{State}
 use Rattle.chip.specs.State.{freshOf, watchOf, watchedOf}
 use Rattle.ports.proofs.Writes.{of-both, write-doubt}
-use Rattle.spu.specs.Step.{Call, write, read, transferIn, transferOut, tick, tickFloats, reset, view, Answer, numberOf, acceptedOf, stepOf, chip}
+use Rattle.spu.specs.Step.{Call, write, read, transferIn, transferOut, tick, tickFloats, run, runFloats, reset, view, status, Answer, numberOf, tickInto, acceptedOf, stepOf, chip}
 use Rattle.transfer.proofs.Moves.{safe-inward, safe-outward}
 use Rattle.tick.proofs.Safe.{safe-tick}
+
+safe-into : (cd : List ℤ) (k : ℕ) (so : Reply (List ℤ) State) → Safe (tickInto cd k so)
+unfolding tickInto
+safe-into cd k so = safe-bind (safe-tick (so .state) _ _) (λ r. safe-done _)
 
 accepted-safe : (c : Call) (s : State) → SafeDoing (acceptedOf c s)
 unfolding acceptedOf
@@ -25,13 +30,17 @@ accepted-safe (transferIn vs) s = safe-bind (safe-inward _ _ vs) (λ a. safe-don
 accepted-safe (transferOut b) s = safe-bind (safe-outward _ _ _) (λ m. safe-done _)
 accepted-safe (tick left right) s = safe-bind (safe-tick s left right) (λ r. safe-done _)
 accepted-safe (tickFloats left right) s = safe-bind (safe-tick s left right) (λ r. safe-done _)
+accepted-safe (run cd out) s = safe-into cd
+accepted-safe (runFloats cd out fs) s = safe-into cd
 accepted-safe reset s = tt
 accepted-safe (view a) s = tt
+accepted-safe status s = tt
 
 -- a call that touches no memory, and leaves doubt clear
 abbrev Clear : Doing Answer State → Type 0
 Clear (still a t) = t .control .doubt ≡ false
 Clear (works p) = Unit {0}
+Clear (repeats n f out end) = Unit {0}
 
 accepted-clear : (c : Call) (s : State) → s .control .doubt ≡ false → Clear (acceptedOf c s)
 unfolding acceptedOf freshOf
@@ -41,8 +50,11 @@ accepted-clear (transferIn vs) s e = tt
 accepted-clear (transferOut b) s e = tt
 accepted-clear (tick left right) s e = tt
 accepted-clear (tickFloats left right) s e = tt
+accepted-clear (run cd out) s e = tt
+accepted-clear (runFloats cd out fs) s e = tt
 accepted-clear reset s e = refl
 accepted-clear (view a) s e = e
+accepted-clear status s e = e
 
 chip-sound : Sound chip
 unfolding stepOf watchOf watchedOf

@@ -4,3 +4,4 @@ pub mod Numbers
 pub mod Undocumented
 pub mod Lent
 pub mod Shape
+pub mod Runs

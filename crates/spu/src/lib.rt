@@ -1,6 +1,7 @@
 // Every call on a state: its definition, its refusals, and what holds of all of them. The calls themselves are the crates above.
 ghost use mathlib.Core.Path.{_≡_};
 ghost use mathlib.Core.List.{[]};
+ghost use Rattle.chip.specs.State.{stateOk};
 ghost use Rattle.spu.specs.Step.{firstOf, lentTests};
 use chip::State;
 
@@ -12,7 +13,7 @@ pub struct Changed {
 
 // 1 or 2, or 0 where neither applies, of the lengths of what is lent.
 pub fn lent_number(s: State, ram: usize, marks: usize) -> u8
-    ensures { λ r. ⌜ r ≡ firstOf (lentTests s ram marks []) ⌝ }
+    ensures { λ r. ⌜ r ≡ firstOf (lentTests (stateOk s) s ram marks []) ⌝ }
 {
     let size = s.choices.size as usize;
     if (ram != size) | (marks != size / 16) {
