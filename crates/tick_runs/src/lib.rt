@@ -1,0 +1,266 @@
+// A run of ticks, on the buffer: the voices change in place, and what else a tick changes stays in locals from the first tick to the last.
+ghost use mathlib.Core.Path.{_≡_};
+ghost use Prim.Native.Nat.{_%_, _<_};
+ghost use Rattle.envelope.specs.Adsr.{tickedOf};
+ghost use Rattle.gauss.specs.Gauss.{table as factors};
+ghost use Rattle.soundram.specs.Address.{Lent};
+ghost use Rattle.soundram.specs.Program.{memOf};
+ghost use Rattle.registers.specs.Map.{Flags};
+ghost use Rattle.voice.specs.Range as voice;
+ghost use Rattle.voice.specs.Voice.{withEnvelope};
+ghost use Rattle.voices.specs.Voices.{Modulated, settingsOf, AllIn};
+ghost use Rattle.chip.specs.Range.{InRange};
+ghost use Rattle.tick.specs.Run.{joinOf, beginOf};
+ghost use Rattle.layout.specs.Layout.{stateOf, voiceIn, Formed, Holds};
+ghost use Rattle.layout.specs.Stores.{withVoice};
+ghost use Rattle.fast_path.specs.Steady.{steadyOf, Steps};
+ghost use Rattle.tick_runs.specs.Run.{Plays, PlaysAll, Runs};
+use chip::Control;
+use envelope::Envelope;
+use soundram::Watch;
+use tick::Going;
+use tick::Rest;
+
+// What a voice gives in its tick.
+struct Played {
+    amplitude: i16,
+    watch: Watch,
+}
+
+// The amplitudes of all voices.
+struct AllPlayed {
+    amplitudes: [i16; 24],
+    watch: Watch,
+}
+
+// The ticks that raised the interrupt and the doubt, or as many as there were.
+pub struct Reports {
+    pub irq: usize,
+    pub doubt: usize,
+}
+
+// Voice n that loads a block in its tick.
+fn play_load(
+    table: &[i16; 512],
+    regs: &[u16; 256],
+    pmon: u32,
+    non: u32,
+    size: u32,
+    state: &mut [u16],
+    n: usize,
+    below: i16,
+    level: u16,
+    ram: &[u8],
+    marks: &[u8],
+    w: Watch,
+) -> Played
+    requires { ⌜ (now table ≡ factors) × (n < 24) × Modulated (now regs) pmon × Flags (now regs) 0x194 non × Formed (now state) × voice.InRange size (voiceIn (now state) n) × Lent size (now ram) (now marks) ⌝ }
+    ensures { λ r. ⌜ Plays size (now (regs .entry)) n below level (now (state .entry)) (memOf (now (ram .entry)) (now (marks .entry)) w) (r .amplitude) (now (state .exit)) (memOf (now (ram .entry)) (now (marks .entry)) (r .watch)) ⌝ }
+{
+    let v = layout::voice(state, n);
+    let s = voices::settings_by(regs, pmon, non, n);
+    let t = voice_tick::tick(table, v, n as u8, size, s, below, level, ram, marks, w);
+    let after = t.voice;
+    layout::put_voice(state, n, after);
+    let watch = t.watch;
+    Played {
+        amplitude: t.amplitude,
+        watch,
+    }
+}
+
+// The envelope of voice n takes its step. Most only wait, and look at no rate.
+fn step_envelope(
+    regs: &[u16; 256],
+    pmon: u32,
+    non: u32,
+    state: &mut [u16],
+    n: usize,
+    e: Envelope,
+)
+    requires { ⌜ (n < 24) × Modulated (now regs) pmon × Flags (now regs) 0x194 non × Formed (now state) × (e ≡ voiceIn (now state) n .envelope) ⌝ }
+    ensures { λ _. ⌜ Holds (now (state .exit)) (withVoice (stateOf (now (state .entry))) n (withEnvelope (voiceIn (now (state .entry)) n) (tickedOf e (settingsOf (now (regs .entry)) n .low) (settingsOf (now (regs .entry)) n .high)))) ⌝ }
+{
+    let phase = e.phase;
+    let wait = e.wait;
+    if envelope_tick::waits(phase, wait) {
+        layout::put_wait(state, n, wait - 1);
+        return;
+    }
+    let s = voices::settings_by(regs, pmon, non, n);
+    layout::put_envelope(state, n, envelope_tick::tick(e, s.low, s.high));
+}
+
+// Voice n plays its tick. Most stay in their block, on the fast path.
+fn play(
+    table: &[i16; 512],
+    regs: &[u16; 256],
+    pmon: u32,
+    non: u32,
+    step: u16,
+    size: u32,
+    state: &mut [u16],
+    n: usize,
+    below: i16,
+    level: u16,
+    ram: &[u8],
+    marks: &[u8],
+    w: Watch,
+) -> Played
+    requires { ⌜ (now table ≡ factors) × (n < 24) × Modulated (now regs) pmon × Flags (now regs) 0x194 non × (step ≡ steadyOf (settingsOf (now regs) n)) × Formed (now state) × voice.InRange size (voiceIn (now state) n) × Lent size (now ram) (now marks) ⌝ }
+    ensures { λ r. ⌜ Plays size (now (regs .entry)) n below level (now (state .entry)) (memOf (now (ram .entry)) (now (marks .entry)) w) (r .amplitude) (now (state .exit)) (memOf (now (ram .entry)) (now (marks .entry)) (r .watch)) ⌝ }
+{
+    let e = layout::envelope(state, n);
+    let phase = e.phase;
+    if voice::is_idle(phase) {
+        return Played {
+            amplitude: 0,
+            watch: w,
+        };
+    }
+    let m = fast_path::stay(table, regs, pmon, non, state, n, step, below, level);
+    if !layout::loaded(state, n) | (27 < m.target) {
+        return play_load(
+            table,
+            regs,
+            pmon,
+            non,
+            size,
+            state,
+            n,
+            below,
+            level,
+            ram,
+            marks,
+            w,
+        );
+    }
+    layout::put_position(state, n, m.counter, m.target as u16);
+    step_envelope(regs, pmon, non, state, n, e);
+    Played {
+        amplitude: m.amplitude,
+        watch: w,
+    }
+}
+
+// All voices play a tick, one after the other.
+fn play_all(
+    table: &[i16; 512],
+    regs: &[u16; 256],
+    pmon: u32,
+    non: u32,
+    steps: &[u16; 24],
+    size: u32,
+    state: &mut [u16],
+    level: u16,
+    ram: &[u8],
+    marks: &[u8],
+    w: Watch,
+) -> AllPlayed
+    requires { ⌜ (now table ≡ factors) × Modulated (now regs) pmon × Flags (now regs) 0x194 non × Steps (now regs) (now steps) × Formed (now state) × AllIn size (stateOf (now state) .voices) × Lent size (now ram) (now marks) ⌝ }
+    ensures { λ r. ⌜ PlaysAll size (now (regs .entry)) level (now (state .entry)) (memOf (now (ram .entry)) (now (marks .entry)) w) (r .amplitudes) (now (state .exit)) (memOf (now (ram .entry)) (now (marks .entry)) (r .watch)) ⌝ }
+{
+    let mut amplitudes = [0i16; 24];
+    let mut watch = w;
+    let mut below = 0i16;
+    for n in 0..24usize {
+        let step = steps[n];
+        let p = play(
+            table, regs, pmon, non, step, size, state, n, below, level, ram, marks, watch,
+        );
+        below = p.amplitude;
+        amplitudes[n] = below;
+        let seen = p.watch;
+        watch = seen;
+    }
+    AllPlayed { amplitudes, watch }
+}
+
+// Before a run of so many ticks.
+fn begin(state: &[u16], regs: &[u16; 256], count: usize) -> Going
+    requires { ⌜ Formed (now state) × InRange (stateOf (now state)) × (now regs ≡ stateOf (now state) .regs) ⌝ }
+    ensures { λ r. ⌜ r ≡ beginOf (stateOf (now (state .entry))) count ⌝ }
+{
+    let now_noise = layout::noise(state);
+    let control = layout::control(state);
+    let reverb = layout::reverb(state);
+    let rest = Rest {
+        noise: now_noise,
+        applied: control.applied,
+        capture: layout::capture(state),
+        reverb,
+        tick: layout::tick(state),
+    };
+    let noise = noise::tick(now_noise, registers::at(regs, 0x1AA));
+    let watch = layout::watch(state);
+    Going {
+        rest,
+        noise,
+        watch,
+        irq: count,
+        doubt: count,
+    }
+}
+
+// After it, what it changed besides the voices goes back.
+fn end(state: &mut [u16], r: Rest, w: Watch)
+    requires { ⌜ Formed (now state) × (r .capture % 2 ≡ 0) × (r .reverb .place .0 % 2 ≡ 0) ⌝ }
+    ensures { λ _. ⌜ Holds (now (state .exit)) (joinOf (stateOf (now (state .entry))) (stateOf (now (state .entry)) .voices) r w) ⌝ }
+{
+    let noise = r.noise;
+    let reverb = r.reverb;
+    let control = Control {
+        applied: r.applied,
+        latch: w.latch,
+        doubt: w.doubt,
+    };
+    layout::put_rest(state, noise, control, r.capture, reverb, r.tick);
+}
+
+// As many ticks as the buffer holds pairs.
+pub fn run(
+    state: &mut [u16],
+    ram: &mut [u8],
+    marks: &mut [u8],
+    cd: &[i16],
+    out: &mut [i16],
+) -> Reports
+    requires { ⌜ Formed (now state) × InRange (stateOf (now state)) × Lent (stateOf (now state) .choices .size) (now ram) (now marks) ⌝ }
+    ensures { λ r. ⌜ Runs (stateOf (now (state .entry))) (now (ram .entry)) (now (marks .entry)) (now (cd .entry)) (now (out .entry)) (r .irq) (r .doubt) (now (state .exit)) (now (ram .exit)) (now (marks .exit)) (now (out .exit)) ⌝ }
+{
+    let size = layout::size(state);
+    let regs = layout::registers(state);
+    let table = gauss::table();
+    let pmon = voices::modulation(&regs);
+    let non = registers::flags(&regs, 0x194);
+    let volumes = voices_mix::volumes(&regs);
+    let steps = fast_path::steps(&regs, pmon, non);
+    let count = out.len() / 2;
+    let mut g = begin(state, &regs, count);
+    for k in 0..count {
+        let p = play_all(
+            &table,
+            &regs,
+            pmon,
+            non,
+            &steps,
+            size,
+            state,
+            g.noise.level,
+            ram,
+            marks,
+            g.watch,
+        );
+        let amplitudes = p.amplitudes;
+        let next = tick_end::finish(
+            &regs, size, g, &volumes, amplitudes, ram, marks, cd, out, k, p.watch,
+        );
+        g = next;
+    }
+    let rest = g.rest;
+    end(state, rest, g.watch);
+    Reports {
+        irq: g.irq,
+        doubt: g.doubt,
+    }
+}
