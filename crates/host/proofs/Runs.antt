@@ -13,7 +13,7 @@ use Rattle.soundram.specs.Calls.{Reply}
 use Rattle.soundram.specs.Program.{memOf, run}
 use Rattle.soundram.proofs.Programs.{does-done, does-bind, run-kept, Always, ends, always-run, always-any, always-bind}
 use Rattle.chip.specs.declared.State.{State}
-use Rattle.chip.specs.State.{watchOf, watchedOf}
+use Rattle.chip.specs.State.{stateOk, watchOf, watchedOf}
 use Rattle.chip.specs.Range.{InRange}
 use Rattle.chip.proofs.Tests.{passes, sized}
 use Rattle.tick.specs.declared.Pair.{Pair}
@@ -21,8 +21,8 @@ use Rattle.tick.specs.Tick.{tickOf}
 use Rattle.tick.proofs.Range.{tick-in}
 use Rattle.runs.specs.Run as runs
 use Rattle.runs.specs.Run.{Run, tickedBy}
-use Rattle.spu.specs.Step.{tick, test, firstOf, lentTests, numberOf, acceptedOf}
-use Rattle.host.specs.Run.{runTests, tickAt, ticksOf, startOf, numberedOf, ranOf}
+use Rattle.spu.specs.Step.{tick, test, firstOf, lentTests, runTests, numberOf, acceptedOf}
+use Rattle.host.specs.Run.{tickAt, ticksOf, startOf, numberedOf, ranOf}
 use Rattle.spu.proofs.Lent.{leaves-works}
 
 -- a state in range, with what is lent of its size
@@ -94,7 +94,7 @@ ran-same cd (suc k) f i =
 
 -- ---- a run, refused and accepted
 
-module _ (s : State) (ram marks : List ℕ) (cd out : List ℤ) {n : ℕ} (e : n ≡ firstOf (lentTests s (length ram) (length marks) (runTests (length cd) (length out)))) where
+module _ (s : State) (ram marks : List ℕ) (cd out : List ℤ) {n : ℕ} (e : n ≡ firstOf (lentTests (stateOk s) s (length ram) (length marks) (runTests (length cd) (length out)))) where
   pub run-no : (n ≡ 0 → ⊥) → record { number = n; count = 0; run = startOf s ram marks out 0 } ≡ ranOf s ram marks cd out
   unfolding ranOf numberedOf
   run-no z = rw (← e, ne-eqb n 0 z)

@@ -1,7 +1,7 @@
 -- A run of ticks, for hosts that want many at a time: n ticks, each on what the one before it left. Assumes nothing.
-use mathlib.Core.Bool.{cond, _&&_, _||_, not}
+use mathlib.Core.Bool.{cond}
 use mathlib.Core.List.{List, [], _∷_, _++_, map}
-use Prim.Native.Nat.{ℕ, zero, suc, _+_, _*_, _/_, _%_}
+use Prim.Native.Nat.{ℕ, zero, suc, _+_, _*_, _/_}
 use lib.Dec.{eqb}
 use lib.ListN.{length, getD, set}
 use lib.IntN.{ℤ, pos}
@@ -9,13 +9,10 @@ use lib.Ieee.{Float}
 use Rattle.stereo.specs.Float.{floatOf}
 use Rattle.soundram.specs.Calls as calls
 use Rattle.chip.specs.declared.State.{State}
+use Rattle.chip.specs.State.{stateOk}
 use Rattle.tick.specs.declared.Pair.{Pair}
 use Rattle.runs.specs.Run.{Run}
-use Rattle.spu.specs.Step.{Call, tick, Answer, written, value, moved, movedOut, pair, floats, made, viewed, Test, test, firstOf, lentTests, outcomeOf}
-
--- 25: the buffer is not of whole pairs, or the CD's is of another length; a CD's buffer of no samples is a silent CD
-abbrev pub runTests : ℕ → ℕ → List Test
-runTests cd out = test ((not (eqb cd 0) && not (eqb cd out)) || not (eqb (out % 2) 0)) 25 ∷ []
+use Rattle.spu.specs.Step.{Call, tick, Answer, written, value, moved, movedOut, pair, floats, ran, ranFloats, made, viewed, looked, firstOf, lentTests, runTests, floatsTests, outcomeOf}
 
 abbrev silence : Pair
 silence = record { left = pos 0; right = pos 0 }
@@ -28,8 +25,11 @@ pairIn (moved n k) = silence
 pairIn (movedOut n k b) = silence
 pairIn (pair n p) = p
 pairIn (floats n f) = silence
+pairIn (ran n k i d o) = silence
+pairIn (ranFloats n k i d o f) = silence
 pairIn (made n) = silence
 pairIn (viewed n k) = silence
+pairIn (looked n d l t) = silence
 
 -- the call of tick k; past the end of the CD's buffer there is silence
 abbrev callAt : List ℤ → ℕ → Call
@@ -81,7 +81,7 @@ numberedOf n s ram marks cd out =
     (record { number = n; count = 0; run = startOf s ram marks out 0 })
 
 unfoldable pub ranOf : State → List ℕ → List ℕ → List ℤ → List ℤ → Outcome
-ranOf s ram marks cd out = numberedOf (firstOf (lentTests s (length ram) (length marks) (runTests (length cd) (length out)))) s ram marks cd out
+ranOf s ram marks cd out = numberedOf (firstOf (lentTests (stateOk s) s (length ram) (length marks) (runTests (length cd) (length out)))) s ram marks cd out
 
 -- ---- "Hosts may have the pair as 32-bit floats": the samples of the whole run, beside them
 
@@ -89,12 +89,8 @@ pub record Floats : Type 0 where
   pub ran : Outcome
   pub floats : List Float
 
--- 25: also where the floats' buffer is of another length
-abbrev pub floatsTests : ℕ → ℕ → List Test
-floatsTests fs out = test (not (eqb fs out)) 25 ∷ []
-
 unfoldable pub ranFloatsOf : State → List ℕ → List ℕ → List ℤ → List ℤ → List Float → Floats
 ranFloatsOf s ram marks cd out fs =
-    let n = firstOf (lentTests s (length ram) (length marks) (runTests (length cd) (length out) ++ floatsTests (length fs) (length out))) in
+    let n = firstOf (lentTests (stateOk s) s (length ram) (length marks) (runTests (length cd) (length out) ++ floatsTests (length fs) (length out))) in
     let o = numberedOf n s ram marks cd out in
     record { ran = o; floats = cond (eqb n 0) (map floatOf (o .run .out)) fs }

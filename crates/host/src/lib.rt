@@ -1,7 +1,8 @@
 // Calls for hosts: many ticks at a time.
 ghost use mathlib.Core.Path.{_≡_};
-ghost use Rattle.spu.specs.Step.{firstOf, lentTests};
-ghost use Rattle.host.specs.Run.{runTests, ranOf};
+ghost use Rattle.chip.specs.State.{stateOk};
+ghost use Rattle.spu.specs.Step.{firstOf, lentTests, runTests};
+ghost use Rattle.host.specs.Run.{ranOf};
 use chip::State;
 
 // What a run of ticks gives: how many there were, and which of them raised the interrupt and the doubt, or that number where none did.
@@ -15,7 +16,7 @@ pub struct Ran {
 
 // 1, 2 or 25, or 0 where none applies, of the lengths of what is lent.
 pub fn run_number(s: State, ram: usize, marks: usize, cd: usize, out: usize) -> u8
-    ensures { λ r. ⌜ r ≡ firstOf (lentTests s ram marks (runTests cd out)) ⌝ }
+    ensures { λ r. ⌜ r ≡ firstOf (lentTests (stateOk s) s ram marks (runTests cd out)) ⌝ }
 {
     let number = spu::lent_number(s, ram, marks);
     if number != 0 {

@@ -13,8 +13,9 @@ use native.Mathlib.Numerals.{add-one}
 use Rattle.stereo.specs.Float.{floatOf}
 use Rattle.soundram.specs.Program.{run}
 use Rattle.chip.specs.declared.State.{State}
-use Rattle.spu.specs.Step.{Test, test, firstOf, lentTests}
-use Rattle.host.specs.Run.{runTests, floatsTests, startOf, Outcome, numberedOf, ranOf, ranFloatsOf}
+use Rattle.chip.specs.State.{stateOk}
+use Rattle.spu.specs.Step.{Test, test, firstOf, lentTests, runTests, floatsTests}
+use Rattle.host.specs.Run.{startOf, Outcome, numberedOf, ranOf, ranFloatsOf}
 
 pub floats-more : (out : List ℤ) (n : ℕ) (fs : List Float) {x : Float} → n < length out → length fs ≡ length out → take n fs ≡ take n (map floatOf out)
     → x ≡ floatOf (getD out n (pos 0)) → take (n + 1) (set fs n x) ≡ take (n + 1) (map floatOf out)
@@ -45,14 +46,14 @@ first-goes-on false false true us e = absurd (omega arith)
 first-goes-on false false false us e = refl
 
 -- n is the number of a run of the same buffers without floats, o that run
-module _ (s : State) (ram marks : List ℕ) (cd out : List ℤ) (fs : List Float) {n : ℕ} (e : n ≡ firstOf (lentTests s (length ram) (length marks) (runTests (length cd) (length out)))) where
+module _ (s : State) (ram marks : List ℕ) (cd out : List ℤ) (fs : List Float) {n : ℕ} (e : n ≡ firstOf (lentTests (stateOk s) s (length ram) (length marks) (runTests (length cd) (length out)))) where
   pub floats-no : (n ≡ 0 → ⊥) → record { ran = record { number = n; count = 0; run = startOf s ram marks out 0 }; floats = fs } ≡ ranFloatsOf s ram marks cd out fs
   unfolding ranFloatsOf numberedOf
   floats-no z =
-      rw (first-stays (lentTests s (length ram) (length marks) (runTests (length cd) (length out))) (floatsTests (length fs) (length out)) (λ y. z (e ∙ y)), ← e, ne-eqb n 0 z)
+      rw (first-stays (lentTests (stateOk s) s (length ram) (length marks) (runTests (length cd) (length out))) (floatsTests (length fs) (length out)) (λ y. z (e ∙ y)), ← e, ne-eqb n 0 z)
 
   module _ (z : n ≡ 0) where
-    by-floats : firstOf (lentTests s (length ram) (length marks) (runTests (length cd) (length out) ++ floatsTests (length fs) (length out))) ≡ firstOf (floatsTests (length fs) (length out))
+    by-floats : firstOf (lentTests (stateOk s) s (length ram) (length marks) (runTests (length cd) (length out) ++ floatsTests (length fs) (length out))) ≡ firstOf (floatsTests (length fs) (length out))
     by-floats = first-goes-on _ _ _ _ (sym e ∙ z)
 
     pub floats-short : (length fs ≡ length out → ⊥) → record { ran = record { number = 25; count = 0; run = startOf s ram marks out 0 }; floats = fs } ≡ ranFloatsOf s ram marks cd out fs

@@ -11,14 +11,14 @@ use lib.IntN.{ℤ, pos}
 use Rattle.stereo.specs.declared.Stereo.{Stereo}
 use Rattle.stereo.specs.Float.{stereoOf}
 use Rattle.soundram.specs.Program.{done, memOf, run}
-use Rattle.soundram.specs.Calls.{Reply, still, Outcome, outcome}
+use Rattle.soundram.specs.Calls.{Reply, still, Outcome, workedOf, outcome}
 use Rattle.soundram.proofs.Programs.{run-bind, does-done, does-bind}
 use Rattle.chip.specs.declared.State.{State}
-use Rattle.chip.specs.State.{watchOf}
+use Rattle.chip.specs.State.{stateOk, watchOf}
 use Rattle.tick.specs.declared.Pair.{Pair}
 use Rattle.tick.specs.Tick.{tickOf}
 use Rattle.runs.specs.Run.{Run, tickedBy, ranOf}
-use Rattle.spu.specs.Step.{tick, tickFloats, Answer, written, value, moved, movedOut, pair, floats, made, viewed, firstOf, lentTests, numberOf, refusedOf, acceptedOf, stepOf, chip, outcomeOf, Leaves}
+use Rattle.spu.specs.Step.{tick, tickFloats, Answer, written, value, moved, movedOut, pair, floats, ran, ranFloats, made, viewed, looked, firstOf, lentTests, numberOf, refusedOf, acceptedOf, stepOf, chip, outcomeOf, Leaves}
 use Rattle.spu.proofs.Lent.{leaves-refused, leaves-works}
 
 -- the only tick of a run reported, or none did
@@ -32,7 +32,7 @@ at-0 o x y l = getD-set-other (set o 0 x) 1 0 y (pos 0) (λ e. omega arith) ∙ 
 at-1 : (o : List ℤ) (x y : ℤ) → length o ≡ 2 → getD (set (set o 0 x) 1 y) 1 (pos 0) ≡ y
 at-1 o x y l = let h = length-set o 0 x in getD-set-same (set o 0 x) 1 y (pos 0) (omega arith)
 
-module _ (s : State) (left right : ℤ) (r m : List ℕ) {n : ℕ} (e : n ≡ firstOf (lentTests s (length r) (length m) [])) where
+module _ (s : State) (left right : ℤ) (r m : List ℕ) {n : ℕ} (e : n ≡ firstOf (lentTests (stateOk s) s (length r) (length m) [])) where
   pub tick-no : (n ≡ 0 → ⊥) → Leaves (tick left right) s r m (pair n (record { left = pos 0; right = pos 0 })) false false s r m
   unfolding numberOf refusedOf
   tick-no z = leaves-refused (tick left right) s r m e z
@@ -72,8 +72,11 @@ asFloats (moved n k) = moved n k
 asFloats (movedOut n k b) = movedOut n k b
 asFloats (pair n p) = floats n (stereoOf (p .left) (p .right))
 asFloats (floats n f) = floats n f
+asFloats (ran n k i d o) = ran n k i d o
+asFloats (ranFloats n k i d o f) = ranFloats n k i d o f
 asFloats (made n) = made n
 asFloats (viewed n k) = viewed n k
+asFloats (looked n d l t) = looked n d l t
 
 record Floated (o p : Outcome Answer State) : Type 0 where
   answer : o .answer ≡ asFloats (p .answer)
@@ -84,11 +87,11 @@ record Floated (o p : Outcome Answer State) : Type 0 where
   marks : o .marks ≡ p .marks
 
 floated : (s : State) (left right : ℤ) (r m : List ℕ) → Floated (outcomeOf (tickFloats left right) s r m) (outcomeOf (tick left right) s r m)
-unfolding outcomeOf stepOf numberOf acceptedOf refusedOf outcome asFloats run
-floated s left right r m = by (eqb (firstOf (lentTests s (length r) (length m) [])) 0)
+unfolding outcomeOf stepOf numberOf acceptedOf refusedOf outcome workedOf asFloats run
+floated s left right r m = by (eqb (firstOf (lentTests (stateOk s) s (length r) (length m) [])) 0)
   where
     n : ℕ
-    n = firstOf (lentTests s (length r) (length m) [])
+    n = firstOf (lentTests (stateOk s) s (length r) (length m) [])
 
     by : (b : Bool) → Floated (outcome chip (cond b (acceptedOf (tickFloats left right) s) (still (refusedOf (tickFloats left right) n) s)) s r m)
         (outcome chip (cond b (acceptedOf (tick left right) s) (still (refusedOf (tick left right) n) s)) s r m)

@@ -15,7 +15,7 @@ use Rattle.soundram.specs.declared.Watch.{Watch}
 use Rattle.soundram.specs.Program.{memOf, Does}
 use Rattle.soundram.proofs.Programs.{does-done, does-bind}
 use Rattle.chip.specs.declared.State.{State}
-use Rattle.chip.specs.State.{withTransfer, watchOf, watchedOf}
+use Rattle.chip.specs.State.{stateOk, withTransfer, watchOf, watchedOf}
 use Rattle.transfer.specs.Transfer.{inwardOf, outwardOf}
 use Rattle.spu_transfer.specs.declared.Transferred.{Transferred}
 use Rattle.spu.specs.Step.{transferIn, transferOut, moved, movedOut, Test, test, firstOf, notInward, notOutward, lentTests, moveTests, numberOf, refusedOf, acceptedOf, Leaves, badCount}
@@ -27,8 +27,8 @@ use Rattle.spu.proofs.Numbers.{here, later, none}
 count-fits : (ts : List Test) (k : ℕ) → firstOf (test (eqb k 0 || ltb 32 k) 7 ∷ ts) ≡ 0 → Fits w32 k
 count-fits ts k e = let h = ltb-false 32 k (or-rest (eqb k 0) (ltb 32 k) (passed-first _ 6 _ e)) in record { fits = omega arith }
 
-pub move-fits : (s : State) (ram marks k : ℕ) (w : Bool) {n : ℕ} → n ≡ firstOf (lentTests s ram marks (moveTests w k)) → n ≡ 0 → Fits w32 k
-move-fits s ram marks k w e z = count-fits [] k (passed-rest _ 5 _ (passed-rest _ 1 _ (passed-rest _ 0 _ (sym e ∙ z))))
+pub move-fits : (good : Bool) (s : State) (ram marks k : ℕ) (w : Bool) {n : ℕ} → n ≡ firstOf (lentTests good s ram marks (moveTests w k)) → n ≡ 0 → Fits w32 k
+move-fits good s ram marks k w e z = count-fits [] k (passed-rest _ 5 _ (passed-rest _ 1 _ (passed-rest _ 0 _ (sym e ∙ z))))
 
 -- a transfer's own tests: b is the code's test of the count
 module _ (wrong : Bool) (n : ℕ) where
@@ -42,8 +42,8 @@ module _ (wrong : Bool) (n : ℕ) where
   move-0 t f u = later _ 6 _ t (later _ 7 _ (rw (← f) u) none)
 
 -- b is the code's test of the mode
-pub move-by : (s : State) (ram marks k : ℕ) {b : Bool} (w : Bool) {n : ℕ} → b ≡ w → n ≡ firstOf (lentTests s ram marks (moveTests b k)) → n ≡ firstOf (lentTests s ram marks (moveTests w k))
-move-by s ram marks k w e f = rw e at f
+pub move-by : (good : Bool) (s : State) (ram marks k : ℕ) {b : Bool} (w : Bool) {n : ℕ} → b ≡ w → n ≡ firstOf (lentTests good s ram marks (moveTests b k)) → n ≡ firstOf (lentTests good s ram marks (moveTests w k))
+move-by good s ram marks k w e f = rw e at f
 
 -- ---- c is the answer as the code makes it
 
@@ -53,7 +53,7 @@ refusal n s = record { number = n; count = 0; irq = false; doubt = false; state 
 abbrev acceptance : State → ℕ → ByteAddress → Watch → Watch → Transferred
 acceptance s k a v w = record { number = 0; count = k; irq = w .latch && not (v .latch); doubt = w .doubt && not (v .doubt); state = watchedOf (withTransfer s a) w }
 
-module _ (s : State) (vs : List ℕ) (r m : List ℕ) {n : ℕ} (e : n ≡ firstOf (lentTests s (length r) (length m) (moveTests (notInward s) (length vs)))) {c : Transferred} where
+module _ (s : State) (vs : List ℕ) (r m : List ℕ) {n : ℕ} (e : n ≡ firstOf (lentTests (stateOk s) s (length r) (length m) (moveTests (notInward s) (length vs)))) {c : Transferred} where
   pub in-no : (n ≡ 0 → ⊥) → c ≡ refusal n s → Leaves (transferIn vs) s r m (moved (c .number) (c .count)) (c .irq) (c .doubt) (c .state) r m
   unfolding numberOf refusedOf
   in-no z f = rw f (leaves-refused (transferIn vs) s r m e z)
@@ -63,7 +63,7 @@ module _ (s : State) (vs : List ℕ) (r m : List ℕ) {n : ℕ} (e : n ≡ first
   unfolding numberOf acceptedOf
   in-yes z ev d f = rw (f, ev) (leaves-works (transferIn vs) s r m e z refl (does-bind _ (rw ev at d) (does-done _ _)))
 
-module _ (s : State) (b : List ℕ) (r m : List ℕ) {n : ℕ} (e : n ≡ firstOf (lentTests s (length r) (length m) (moveTests (notOutward s) (length b)))) {c : Transferred} where
+module _ (s : State) (b : List ℕ) (r m : List ℕ) {n : ℕ} (e : n ≡ firstOf (lentTests (stateOk s) s (length r) (length m) (moveTests (notOutward s) (length b)))) {c : Transferred} where
   pub out-no : (n ≡ 0 → ⊥) → c ≡ refusal n s → Leaves (transferOut b) s r m (movedOut (c .number) (c .count) b) (c .irq) (c .doubt) (c .state) r m
   unfolding numberOf refusedOf
   out-no z f = rw f (leaves-refused (transferOut b) s r m e z)

@@ -1,7 +1,7 @@
 // Halfwords moved into and out of sound RAM.
 ghost use mathlib.Core.Path.{_≡_};
 ghost use mathlib.Core.Bool.{false, _&&_, not};
-ghost use Rattle.chip.specs.State.{withTransfer, watchedOf};
+ghost use Rattle.chip.specs.State.{stateOk, withTransfer, watchedOf};
 ghost use Rattle.spu.specs.Step.{moved, movedOut, transferIn, transferOut, firstOf, badCount, notInward, notOutward, lentTests, moveTests, Leaves};
 use chip::State;
 use soundram::Watch;
@@ -38,7 +38,7 @@ fn not_outward(s: State) -> bool
 }
 
 fn transfer_number(s: State, ram: usize, marks: usize, wrong: bool, count: usize) -> u8
-    ensures { λ r. ⌜ r ≡ firstOf (lentTests s ram marks (moveTests wrong count)) ⌝ }
+    ensures { λ r. ⌜ r ≡ firstOf (lentTests (stateOk s) s ram marks (moveTests wrong count)) ⌝ }
 {
     let number = spu::lent_number(s, ram, marks);
     if number != 0 {

@@ -10,13 +10,13 @@ use lib.IntN.{ℤ}
 use lib.Ieee.{Float}
 use borrow.Author.Tests.{eq-eqb, ne-eqb, eqb-true, not-true, not-false}
 use Rattle.fixed.proofs.Bools.{and-first}
-use Rattle.soundram.specs.Calls.{Reply, Doing, still, works, Outcome, outcome}
+use Rattle.soundram.specs.Calls.{Reply, Doing, still, works, repeats, Outcome, workedOf, outcome}
 use Rattle.soundram.proofs.Programs.{Always, ends, always-bind, always-any, always-run}
 use Rattle.chip.specs.declared.State.{State}
 use Rattle.chip.specs.State.{freshOf, allOf, sizeOk, stateOk}
 use Rattle.image.specs.declared.Loaded.{Loaded}
 use Rattle.image.specs.Image.{imageLength, imageOf, stateOf, isImage, loadedOf}
-use Rattle.spu.specs.Step.{Call, write, read, transferIn, transferOut, tick, tickFloats, reset, view, Answer, written, value, moved, movedOut, pair, floats, made, viewed, numberOf, refusedOf, acceptedOf, stepOf, chip, outcomeOf, Gives, Leaves, firstOf, makeOf}
+use Rattle.spu.specs.Step.{Call, write, read, transferIn, transferOut, tick, tickFloats, run, runFloats, reset, view, status, Answer, written, value, moved, movedOut, pair, floats, ran, ranFloats, made, viewed, looked, numberOf, refusedOf, acceptedOf, stepOf, chip, outcomeOf, Gives, Leaves, firstOf, makeOf}
 use Rattle.spu.specs.declared.Changed.{Changed}
 use Rattle.host.specs.Run as host
 use Rattle.host.specs.Run.{numberedOf, ranOf, ranFloatsOf}
@@ -31,8 +31,11 @@ numberIn (moved n k) = n
 numberIn (movedOut n k b) = n
 numberIn (pair n p) = n
 numberIn (floats n f) = n
+numberIn (ran n k i d o) = n
+numberIn (ranFloats n k i d o f) = n
 numberIn (made n) = n
 numberIn (viewed n k) = n
+numberIn (looked n d l t) = n
 
 refused-number : (c : Call) (n : ℕ) → numberIn (refusedOf c n) ≡ n
 unfolding refusedOf
@@ -42,12 +45,16 @@ refused-number (transferIn vs) n = refl
 refused-number (transferOut b) n = refl
 refused-number (tick left right) n = refl
 refused-number (tickFloats left right) n = refl
+refused-number (run cd out) n = refl
+refused-number (runFloats cd out fs) n = refl
 refused-number reset n = refl
 refused-number (view a) n = refl
+refused-number status n = refl
 
 abbrev Accepts : Doing Answer State → Type 0
 Accepts (still a t) = numberIn a ≡ 0
 Accepts (works p) = Always (λ (r : Reply Answer State). numberIn (r .answer) ≡ 0) p
+Accepts (repeats n f out end) = (i d : ℕ) (o : List ℤ) → numberIn (end i d o) ≡ 0
 
 accepted-number : (c : Call) (s : State) → Accepts (acceptedOf c s)
 unfolding acceptedOf
@@ -57,13 +64,17 @@ accepted-number (transferIn vs) s = always-bind (always-any _) (λ _ _. ends ref
 accepted-number (transferOut b) s = always-bind (always-any _) (λ _ _. ends refl)
 accepted-number (tick left right) s = always-bind (always-any _) (λ _ _. ends refl)
 accepted-number (tickFloats left right) s = always-bind (always-any _) (λ _ _. ends refl)
+accepted-number (run cd out) s = λ i d o. refl
+accepted-number (runFloats cd out fs) s = λ i d o. refl
 accepted-number reset s = refl
 accepted-number (view a) s = refl
+accepted-number status s = refl
 
 outcome-number : (d : Doing Answer State) (s : State) (ram marks : List ℕ) → Accepts d → numberIn (outcome chip d s ram marks .answer) ≡ 0
-unfolding outcome
+unfolding outcome workedOf
 outcome-number (still a t) s ram marks e = e
 outcome-number (works p) s ram marks e = always-run e _
+outcome-number (repeats n f out end) s ram marks e = e _ _ _
 
 module _ (c : Call) (s : State) (ram marks : List ℕ) where
   abbrev number : ℕ

@@ -11,7 +11,7 @@ use Rattle.soundram.specs.Calls as calls
 use Rattle.chip.specs.declared.State.{State}
 use Rattle.chip.specs.State.{sizeOk, stateOk}
 use Rattle.image.specs.Image.{imageLength, imageOf, stateOf, isImage}
-use Rattle.spu.specs.Step.{Call, write, read, transferIn, transferOut, tick, tickFloats, reset, view, Answer, test, firstOf, numberOf, refusedOf, outcomeOf, makeOf}
+use Rattle.spu.specs.Step.{Call, write, read, transferIn, transferOut, tick, tickFloats, run, runFloats, reset, view, status, Answer, test, firstOf, numberOf, refusedOf, outcomeOf, makeOf}
 use Rattle.host.specs.Run as host
 use Rattle.host.specs.Run.{numberedOf, ranOf, ranFloatsOf}
 use Rattle.tenonwhisk.specs.declared.Status.{Status}
@@ -19,7 +19,7 @@ use Rattle.tenonwhisk.specs.declared.Ran.{Ran}
 
 -- ---- the calls
 
--- a register read and a block view change no state, and the bytes are not written
+-- a register read, a block view and a status change no state, and the bytes are not written
 abbrev pub stores : Call → Bool
 stores (write offset v) = true
 stores (read offset) = false
@@ -27,8 +27,11 @@ stores (transferIn vs) = true
 stores (transferOut b) = true
 stores (tick left right) = true
 stores (tickFloats left right) = true
+stores (run cd out) = true
+stores (runFloats cd out fs) = true
 stores reset = true
 stores (view a) = false
+stores status = false
 
 -- of bytes that are an image: the outcome of the core's call on the state that stands in them, whose image they are after an accepted call
 abbrev pub keptIn : Call → List ℕ → List ℕ → List ℕ → calls.Outcome Answer (List ℕ)

@@ -21,7 +21,7 @@ run-requires c κs =
     let b = a .before .before .before in
     let e = a .run-number .ensures in
     let z = d .if1 .left in
-    (lent-all (b .args .s) _ _ _ e z, in-range _ (lent-ok (b .args .s) _ _ _ e z) (shaped _ (b .good .0)))
+    (lent-all _ (b .args .s) (λ q. q) _ _ _ e z, in-range _ (lent-ok _ (b .args .s) (λ q. q) _ _ _ e z) (shaped _ (b .good .0)))
 
 same-length : tie.Need-same-length
 same-length c = search needs
@@ -40,7 +40,7 @@ returns-2 c =
     let b = a .before .before .before in
     let e = a .run-number .ensures in
     let z = d .if1 .left in
-    run-yes (b .args .s) _ _ _ _ e z (in-range _ (lent-ok (b .args .s) _ _ _ e z) (shaped _ (b .good .0))) (lent-all (b .args .s) _ _ _ e z) (r .run .ensures)
+    run-yes (b .args .s) _ _ _ _ e z (in-range _ (lent-ok _ (b .args .s) (λ q. q) _ _ _ e z) (shaped _ (b .good .0))) (lent-all _ (b .args .s) (λ q. q) _ _ _ e z) (r .run .ensures)
 
 pub run-spec : {M : Type 1} → statement M
 run-spec =

@@ -29,7 +29,7 @@ run-requires c κs =
     let b = a .before .before .before in
     let e = a .lent-number .ensures in
     let z = d .if1 .left in
-    (lent-all (b .args .s) _ _ _ e z, in-range _ (lent-ok (b .args .s) _ _ _ e z) (shaped _ (b .good .0)))
+    (lent-all _ (b .args .s) (λ q. q) _ _ _ e z, in-range _ (lent-ok _ (b .args .s) (λ q. q) _ _ _ e z) (shaped _ (b .good .0)))
 
 array-copy-out-t25 : tie.Need-array-copy-out-t25
 array-copy-out-t25 c = search needs
