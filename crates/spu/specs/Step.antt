@@ -21,9 +21,9 @@ use Rattle.transfer.specs.Transfer.{inwardOf, outwardOf}
 use Rattle.tick.specs.declared.Pair.{Pair}
 use Rattle.tick.specs.Tick.{tickOf}
 
--- a call with its fixed arguments; an outgoing buffer is lent with its contents. `run` is a run of ticks, for hosts that want many at a time: one for each
--- pair of the outgoing buffer, over the CD's samples; `runFloats` is lent a buffer of floats besides. `view` is the block view, in document 01's word: a look
--- at the sixteen bytes of one ADPCM block in the caller's own RAM. `status` is a look at the state
+-- a call with its fixed arguments; an outgoing buffer is lent with its contents. `run` is a run of ticks, for hosts that want many at a time: it takes the
+-- CD's samples, and makes a tick for each pair of the outgoing buffer; `runFloats` is lent a buffer of floats too. `view` is the block view, in document 01's
+-- word: a look at the sixteen bytes of one ADPCM block in the caller's own RAM. `status` is a look at the state
 pub data Call : Type 0 where
   write : ℕ → ℕ → Call
   read : ℕ → Call
@@ -37,9 +37,9 @@ pub data Call : Type 0 where
   view : ℕ → Call
   status : Call
 
--- "Answers are all that a call returns, with its number .., and the outgoing buffer after it; of a block view, the number and the length." Of a run they are
--- the number, how many ticks there were, which of them reported the interrupt and the doubt, or how many there were where none did, and the buffers; of a
--- status the number, whether doubt stands, L and the tick number
+-- "Answers are all that a call returns, with its number .., and the outgoing buffer after it; of a block view, the number and the length." A run tells how
+-- many ticks it made, and which of them reported the interrupt and the doubt, or that count where none did; a status whether doubt stands, L and the tick
+-- number
 pub data Answer : Type 0 where
   written : ℕ → Answer
   value : ℕ → ℕ → Answer
@@ -47,11 +47,11 @@ pub data Answer : Type 0 where
   movedOut : ℕ → ℕ → List ℕ → Answer
   pair : ℕ → Pair → Answer
   floats : ℕ → Stereo → Answer
-  ran : ℕ → ℕ → ℕ → ℕ → List ℤ → Answer
-  ranFloats : ℕ → ℕ → ℕ → ℕ → List ℤ → List Float → Answer
+  ran : (number count irq doubt : ℕ) → List ℤ → Answer
+  ranFloats : (number count irq doubt : ℕ) → List ℤ → List Float → Answer
   made : ℕ → Answer
   viewed : ℕ → ℕ → Answer
-  looked : ℕ → Bool → ℕ → ℕ → Answer
+  looked : (number : ℕ) → (doubt : Bool) → (size tick : ℕ) → Answer
 
 -- ---- "Numbers a call returns": an ordered list of tests, of which the first that applies gives its number, and 0 where none does. Document 01 gives the
 -- lowest number that applies; document 02 amends that rule: 11 is "tested after 4 and before 5"
@@ -113,7 +113,7 @@ lentTests good s ram marks ts = test (otherLent s ram marks) 1 ∷ outside good 
 abbrev pub moveTests : Bool → ℕ → List Test
 moveTests wrong n = test wrong 6 ∷ test (badCount n) 7 ∷ []
 
--- of whether the state is in its ranges
+-- the tests of each call, of whether the state is in its ranges
 abbrev pub testsOf : Call → Bool → State → ℕ → ℕ → List Test
 testsOf (write offset v) good s ram marks =
     outside good ∷ test (not (listed offset)) 3 ∷ test (readOnly offset) 4 ∷ test (undocumented offset v) 11 ∷ test (notWritten offset v) 5 ∷ []
