@@ -1,1 +1,2 @@
 pub mod Voices
+pub mod Ticks

@@ -70,14 +70,7 @@ fn play_load(
 }
 
 // The envelope of voice n takes its step. Most only wait, and look at no rate.
-fn step_envelope(
-    regs: &[u16; 256],
-    pmon: u32,
-    non: u32,
-    state: &mut [u16],
-    n: usize,
-    e: Envelope,
-)
+fn step_envelope(regs: &[u16; 256], pmon: u32, non: u32, state: &mut [u16], n: usize, e: Envelope)
     requires { ⌜ (n < 24) × Modulated (now regs) pmon × Flags (now regs) 0x194 non × Formed (now state) × (e ≡ voiceIn (now state) n .envelope) ⌝ }
     ensures { λ _. ⌜ Holds (now (state .exit)) (withVoice (stateOf (now (state .entry))) n (withEnvelope (voiceIn (now (state .entry)) n) (tickedOf e (settingsOf (now (regs .entry)) n .low) (settingsOf (now (regs .entry)) n .high)))) ⌝ }
 {
@@ -166,7 +159,19 @@ fn play_all(
     for n in 0..24usize {
         let step = steps[n];
         let p = play(
-            table, regs, pmon, non, step, size, state, n, below, level, ram, marks, watch,
+            table,
+            regs,
+            pmon,
+            non,
+            step,
+            size,
+            state,
+            n,
+            below,
+            level,
+            ram,
+            marks,
+            watch,
         );
         below = p.amplitude;
         amplitudes[n] = below;
@@ -253,7 +258,17 @@ pub fn run(
         );
         let amplitudes = p.amplitudes;
         let next = tick_end::finish(
-            &regs, size, g, &volumes, amplitudes, ram, marks, cd, out, k, p.watch,
+            &regs,
+            size,
+            g,
+            &volumes,
+            amplitudes,
+            ram,
+            marks,
+            cd,
+            out,
+            k,
+            p.watch,
         );
         g = next;
     }

@@ -30,10 +30,10 @@ watch-requires c κs = search needs
 
 returns : tie.Need-returns
 returns c =
-  let u = c .before in
-  let k = c .before .before .before in
-  let z = c .before .before .before .before .before .before .before .before .before in
-  begun _ _ (z .pre .2) (c .before .before .before .before .before .before .before .noise .ensures) (c .before .before .before .before .before .before .control .ensures) (c .before .before .before .before .before .reverb .ensures) (c .before .before .before .before .capture .ensures) (k .tick .ensures) (c .before .before .at .ensures) (u .tick2 .ensures) (c .watch .ensures)
+    let u = c .before in
+    let k = c .before .before .before in
+    let z = c .before .before .before .before .before .before .before .before .before in
+    begun _ _ (z .pre .2) (c .before .before .before .before .before .before .before .noise .ensures) (c .before .before .before .before .before .before .control .ensures) (c .before .before .before .before .before .reverb .ensures) (c .before .before .before .before .capture .ensures) (k .tick .ensures) (c .before .before .at .ensures) (u .tick2 .ensures) (c .watch .ensures)
 
 pub begin-spec : {M : Type 1} → statement M
 begin-spec =

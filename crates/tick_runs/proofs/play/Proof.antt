@@ -40,27 +40,27 @@ put-position-requires c κs = search needs
 
 step-envelope-requires : tie.Need-step-envelope-requires
 step-envelope-requires c κs =
-  let p = c .before .before .before in
-  let e = c .before .before .before .before .before .before .before .before .before .before .before .before .before .before in
-  let z = e .before .before .before .before .before in
-  (z .pre .1, z .pre .2, z .pre .3, p .put-position .ensures .formed, moved-envelope _ _ _ _ _ (z .pre .1) (e .envelope .ensures) (p .put-position .ensures))
+    let p = c .before .before .before in
+    let e = c .before .before .before .before .before .before .before .before .before .before .before .before .before .before in
+    let z = e .before .before .before .before .before in
+    (z .pre .1, z .pre .2, z .pre .3, p .put-position .ensures .formed, moved-envelope _ _ _ _ _ (z .pre .1) (e .envelope .ensures) (p .put-position .ensures))
 
 same-length-3 : tie.Need-same-length-3
 same-length-3 c = search needs
 
 returns-3 : tie.Need-returns-3
 returns-3 c =
-  let s = c .before .before .before in
-  let p = s .before .before .before .before in
-  let t = p .before .before .before in
-  let l = t .before .before in
-  let f = l .before .before in
-  let i = f .before .before in
-  let d = i .before in
-  let e = d .before in
-  let z = e .before .before .before .before .before in
-  let m = f .stay .ensures in
-  stays-plays _ _ _ _ _ _ _ (z .pre .1) (toZ-ofZ (z .fits .below)) (e .envelope .ensures) (d .is-idle .ensures) (i .if1 .left) (l .loaded .ensures) (t .if2 .left) (m .0) (m .1) (m .3) (search (needs, c .struct-told .given)) refl (p .put-position .ensures) (s .step-envelope .ensures)
+    let s = c .before .before .before in
+    let p = s .before .before .before .before in
+    let t = p .before .before .before in
+    let l = t .before .before in
+    let f = l .before .before in
+    let i = f .before .before in
+    let d = i .before in
+    let e = d .before in
+    let z = e .before .before .before .before .before in
+    let m = f .stay .ensures in
+    stays-plays _ _ _ _ _ _ _ (z .pre .1) (toZ-ofZ (z .fits .below)) (e .envelope .ensures) (d .is-idle .ensures) (i .if1 .left) (l .loaded .ensures) (t .if2 .left) (m .0) (m .1) (m .3) (search (needs, c .struct-told .given)) refl (p .put-position .ensures) (s .step-envelope .ensures)
 
 pub play-spec : {M : Type 1} → statement M
 play-spec =

@@ -26,11 +26,11 @@ element-copy-out-step c = search needs
 
 play-requires : tie.Need-play-requires Inv-loop μ-loop
 play-requires c κs =
-  let l = c .before .before .before in
-  let z = l .before .before .before .before in
-  let p = l .loop .inv .1 in
-  let h = c .before .before .loop-test .taken in
-  (z .pre .0, h, z .pre .1, z .pre .2, z .pre .3 .each _ h, p .holds .formed, played-in p h, z .pre .6)
+    let l = c .before .before .before in
+    let z = l .before .before .before .before in
+    let p = l .loop .inv .1 in
+    let h = c .before .before .loop-test .taken in
+    (z .pre .0, h, z .pre .1, z .pre .2, z .pre .3 .each _ h, p .holds .formed, played-in p h, z .pre .6)
 
 mul-amplitudes : tie.Need-mul-amplitudes Inv-loop μ-loop
 mul-amplitudes c = search needs
@@ -46,11 +46,11 @@ loop-less c = search needs
 
 loop-again : tie.Need-loop-again Inv-loop μ-loop
 loop-again c =
-  let y = c .before .before .before .before in
-  let h = c .before .before .before .before .before .before .before .loop-test .taken in
-  let l = c .before .before .before .before .before .before .before .before in
-  let z = l .before .before .before .before in
-  (search needs, played-more (l .loop .inv .1) (z .pre .6 .sized) h (y .play .ensures) (search (needs, c .before .struct-told .given)))
+    let y = c .before .before .before .before in
+    let h = c .before .before .before .before .before .before .before .loop-test .taken in
+    let l = c .before .before .before .before .before .before .before .before in
+    let z = l .before .before .before .before in
+    (search needs, played-more (l .loop .inv .1) (z .pre .6 .sized) h (y .play .ensures) (search (needs, c .before .struct-told .given)))
 
 same-length : tie.Need-same-length Inv-loop μ-loop
 same-length c = let l = c .before in let z = l .before .before .before .before in l .loop .inv .1 .holds .formed .size ∙ sym (z .pre .4 .size)

@@ -18,23 +18,23 @@ tick-requires c κs = let z = c .before .before .before .before .before .before 
 
 put-voice-requires : tie.Need-put-voice-requires
 put-voice-requires c κs =
-  let t = c .before .before in
-  let v = t .before .before in
-  let z = v .before .before .before .before .before in
-  let q = load-in _ _ _ _ _ _ (v .voice .ensures) (t .tick .ensures) (z .pre .6 .sized) (z .pre .5) in
-  (z .pre .1, z .pre .4, q .0, q .1)
+    let t = c .before .before in
+    let v = t .before .before in
+    let z = v .before .before .before .before .before in
+    let q = load-in _ _ _ _ _ _ (v .voice .ensures) (t .tick .ensures) (z .pre .6 .sized) (z .pre .5) in
+    (z .pre .1, z .pre .4, q .0, q .1)
 
 same-length : tie.Need-same-length
 same-length c = search needs
 
 returns : tie.Need-returns
 returns c =
-  let p = c .before .before .before .before in
-  let t = p .before .before .before in
-  let s = t .before in
-  let v = s .before in
-  let z = v .before .before .before .before .before in
-  load-plays _ _ _ _ _ _ (v .voice .ensures) (s .settings-by .ensures) (toZ-ofZ (z .fits .below)) (t .tick .ensures) (search (needs, c .struct-told .given)) (p .put-voice .ensures)
+    let p = c .before .before .before .before in
+    let t = p .before .before .before in
+    let s = t .before in
+    let v = s .before in
+    let z = v .before .before .before .before .before in
+    load-plays _ _ _ _ _ _ (v .voice .ensures) (s .settings-by .ensures) (toZ-ofZ (z .fits .below)) (t .tick .ensures) (search (needs, c .struct-told .given)) (p .put-voice .ensures)
 
 pub play-load-spec : {M : Type 1} → statement M
 play-load-spec =

@@ -1,106 +1,99 @@
+use borrow.Author.Needs.{needs}
+use mathlib.Core.Path.{refl, sym, _∙_}
+use Prim.Native.Nat.{_+_, _-_, _^_, _<_}
+use native.Mathlib.Omega.{arith}
+use Rattle.layout.specs.Layout.{stateOf}
+use Rattle.tick_runs.proofs.Ticks.{Running, running-none, running-all, running-more, running-end}
 use Rattle.tick_runs.proofs.run.Statement.{statement}
 use Rattle.tick_runs.proofs.run.Tie as tie
-use Rattle.tick_runs.proofs.run.Reads as reads
-use Rattle.tick_runs.proofs.run.Lts as lts
-use Rattle.fast_path.proofs.steps.Reads as steps-reads
-use Rattle.gauss.proofs.table.Reads as table-reads
-use Rattle.layout.proofs.registers.Reads as registers-reads
-use Rattle.layout.proofs.size.Reads as size-reads
-use Rattle.registers.proofs.flags.Reads as flags-reads
-use Rattle.tick_end.proofs.finish.Reads as finish-reads
-use Rattle.tick_runs.proofs.begin.Reads as begin-reads
-use Rattle.tick_runs.proofs.end.Reads as end-reads
-use Rattle.tick_runs.proofs.play_all.Reads as play-all-reads
-use Rattle.voices.proofs.modulation.Reads as modulation-reads
-use Rattle.voices_mix.proofs.volumes.Reads as volumes-reads
 
 abbrev Inv-loop : tie.InvT-loop
-Inv-loop state₀ ram₀ marks₀ cd out₀ size regs table pmon non volumes steps count g₀ k₀ state ram marks out g k =
-    ?
+Inv-loop state₀ ram₀ marks₀ cd out₀ size regs table pmon non volumes steps count g₀ k₀ state ram marks out g k = Running (stateOf state₀) cd ram₀ marks₀ out₀ count k state g ram marks out
 
 abbrev μ-loop : tie.MeasureT-loop
-μ-loop state₀ ram₀ marks₀ cd out₀ size regs table pmon non volumes steps count g₀ k₀ state ram marks out g k =
-    ?
+μ-loop state₀ ram₀ marks₀ cd out₀ size regs table pmon non volumes steps count g₀ k₀ state ram marks out g k = count - k
 
--- src/lib.rt:231:9
 size-requires : tie.Need-size-requires Inv-loop μ-loop
-size-requires c κs = ?
+size-requires c κs = search needs
 
--- src/lib.rt:232:16
 registers-requires : tie.Need-registers-requires Inv-loop μ-loop
-registers-requires c κs = ?
+registers-requires c κs = search needs
 
--- src/lib.rt:233:17
 table-requires : tie.Need-table-requires Inv-loop μ-loop
-table-requires c κs = ?
+table-requires c κs = search needs
 
--- src/lib.rt:234:9
 modulation-requires : tie.Need-modulation-requires Inv-loop μ-loop
-modulation-requires c κs = ?
+modulation-requires c κs = search needs
 
--- src/lib.rt:235:9
 flags-requires : tie.Need-flags-requires Inv-loop μ-loop
-flags-requires c κs = ?
+flags-requires c κs = search needs
 
--- src/lib.rt:236:19
 volumes-requires : tie.Need-volumes-requires Inv-loop μ-loop
-volumes-requires c κs = ?
+volumes-requires c κs = search needs
 
--- src/lib.rt:237:17
 steps-requires : tie.Need-steps-requires Inv-loop μ-loop
-steps-requires c κs = ?
+steps-requires c κs = search needs
 
--- src/lib.rt:239:9
 begin-requires : tie.Need-begin-requires Inv-loop μ-loop
-begin-requires c κs = ?
+begin-requires c κs = let z = c .before .before .before .before .before .before .before .before .before .before .before .before .before .before .before .before .before .before in (z .pre .0, z .pre .1, c .before .before .before .before .before .before .before .before .before .before .before .registers .ensures)
 
--- src/lib.rt:240:5
 loop-holds : tie.Need-loop-holds Inv-loop μ-loop
-loop-holds c = ?
+loop-holds c = let z = c .before .before .before .before .before .before .before .before .before .before .before .before .before .before .before .before .before .before .before in running-none _ _ _ _ _ _ (z .pre .0) (z .pre .1) (z .pre .2) (c .begin .ensures)
 
--- src/lib.rt:241:13
 play-all-requires : tie.Need-play-all-requires Inv-loop μ-loop
-play-all-requires c κs = ?
+play-all-requires c κs =
+    let l = c .before .before .before .before .before .before .before in
+    let b = l .before in
+    let p = l .loop .inv in
+    (b .before .before .before .before .before .before .before .before .before .before .before .table .ensures, b .before .before .before .before .before .before .before .before .before .modulation .ensures, b .before .before .before .before .before .before .before .flags .ensures, b .before .before .before .steps .ensures, p .holds .formed, running-all p (b .before .before .before .before .before .before .before .before .before .before .before .before .before .before .size .ensures), rw (b .before .before .before .before .before .before .before .before .before .before .before .before .before .before .size .ensures) (p .lent))
 
--- src/lib.rt:255:13
 finish-requires : tie.Need-finish-requires Inv-loop μ-loop
-finish-requires c κs = ?
+finish-requires c κs =
+    let l = c .before .before .before .before .before .before .before .before .before .before .before .before .before .before .before .before in
+    let b = l .before in
+    let p = l .loop .inv in
+    let h = c .before .before .before .before .before .before .before .before .before .before .before .before .before .before .before .loop-test .taken in
+    let e = p .len in
+    let r = b .before .before .before .before .before .before .before .before .before .before .before .before .registers .ensures in
+    let s = b .before .before .before .before .before .before .before .before .before .before .before .before .before .before .size .ensures in
+    (rw s (p .lent), p .range .capture, rw (s, r) (p .range .place), omega arith, b .before .before .before .before .before .volumes .ensures)
 
--- src/lib.rt:240:9
 add-k : tie.Need-add-k Inv-loop μ-loop
-add-k c = ?
+add-k c =
+    let l = c .before .before .before .before .before .before .before .before .before .before .before .before .before .before .before .before .before .before .before .before .before .before in
+    let z = l .before .before .before .before .before .before .before .before .before .before .before .before .before .before .before .before .before .before .before .before in
+    let h = c .before .before .before .before .before .before .before .before .before .before .before .before .before .before .before .before .before .before .before .before .before .loop-test .taken in
+    let b : l .loop .k + 1 < 2 ^ 64 = omega (arith, z .good .1 .1 .1 .1 .0) in
+    search (needs, b)
 
--- src/lib.rt:240:5
 loop-less : tie.Need-loop-less Inv-loop μ-loop
-loop-less c = ?
+loop-less c =
+    let l = c .before .before .before .before .before .before .before .before .before .before .before .before .before .before .before .before .before .before .before .before .before .before in
+    omega (arith, c .before .before .before .before .before .before .before .before .before .before .before .before .before .before .before .before .before .before .before .before .before .loop-test .taken)
 
--- src/lib.rt:240:5
 loop-again : tie.Need-loop-again Inv-loop μ-loop
-loop-again c = ?
+loop-again c =
+    let l = c .before .before .before .before .before .before .before .before .before .before .before .before .before .before .before .before .before .before .before .before .before .before in
+    let b = l .before in
+    running-more (l .loop .inv) (c .before .before .before .before .before .before .before .before .before .before .before .before .before .before .before .before .before .before .before .before .before .loop-test .taken) (b .before .before .before .before .before .before .before .before .before .before .before .before .before .before .size .ensures) (b .before .before .before .before .before .before .before .before .before .before .before .before .registers .ensures) (c .before .before .before .before .before .before .before .before .before .before .before .before .before .before .play-all .ensures) (c .before .before .before .before .before .finish .ensures)
 
--- src/lib.rt:261:5
 end-requires : tie.Need-end-requires Inv-loop μ-loop
-end-requires c κs = ?
+end-requires c κs = let p = c .before .before .before .loop .inv in (p .holds .formed, p .range .capture .even, p .range .place .even)
 
--- src/lib.rt:221:1
 same-length : tie.Need-same-length Inv-loop μ-loop
-same-length c = ?
+same-length c = let p = c .before .before .before .before .before .before .loop .inv in let z = c .before .before .before .before .before .before .before .before .before .before .before .before .before .before .before .before .before .before .before .before .before .before .before .before .before .before in c .before .before .end .ensures .formed .size ∙ sym (z .pre .0 .size)
 
--- src/lib.rt:221:1
 same-length-2 : tie.Need-same-length-2 Inv-loop μ-loop
-same-length-2 c = ?
+same-length-2 c = let p = c .before .before .before .before .before .before .loop .inv in let z = c .before .before .before .before .before .before .before .before .before .before .before .before .before .before .before .before .before .before .before .before .before .before .before .before .before .before in p .lent .ram-size ∙ sym (z .pre .2 .ram-size)
 
--- src/lib.rt:221:1
 same-length-3 : tie.Need-same-length-3 Inv-loop μ-loop
-same-length-3 c = ?
+same-length-3 c = let p = c .before .before .before .before .before .before .loop .inv in let z = c .before .before .before .before .before .before .before .before .before .before .before .before .before .before .before .before .before .before .before .before .before .before .before .before .before .before in (omega (arith, p .lent .marks-size, z .pre .2 .marks-size))
 
--- src/lib.rt:221:1
 same-length-4 : tie.Need-same-length-4 Inv-loop μ-loop
-same-length-4 c = ?
+same-length-4 c = c .before .before .before .before .before .before .loop .inv .len
 
--- src/lib.rt:221:1
 returns : tie.Need-returns Inv-loop μ-loop
-returns c = ?
+returns c = running-end (c .before .before .before .before .before .before .loop .inv) (c .before .before .before .before .before .loop-test .left) refl (c .before .before .end .ensures)
 
 pub run-spec : {M : Type 1} → statement M
 run-spec =
