@@ -51,11 +51,16 @@ module _ (xs : List ℕ) (n : ℕ) (h : n < 24) where
   abbrev here : Voice
   here = getD (stateOf xs .voices) n pastEnd
 
-  pub envelope-is : {p : Phase} {w : ℕ} → p ≡ phaseOf (getD xs (260 + n) 0) → w ≡ wide (getD xs (308 + n) 0) (getD xs (332 + n) 0)
-      → record { phase = p; level = getD xs (284 + n) 0; wait = w } ≡ here .envelope
+  pub phase-is : {p : Phase} → p ≡ phaseOf (getD xs (260 + n) 0) → p ≡ here .envelope .phase
   unfolding voiceFrom place
-  envelope-is e f =
-      rw (e, f, voice-at xs n h, row-at xs n 0 (omega arith), row-at xs n 1 (omega arith), row-at xs n 2 (omega arith), row-at xs n 3 (omega arith))
+  phase-is e = rw (e, voice-at xs n h, row-at xs n 0 (omega arith))
+
+  pub wait-is : {w : ℕ} → w ≡ wide (getD xs (308 + n) 0) (getD xs (332 + n) 0) → w ≡ here .envelope .wait
+  unfolding voiceFrom place
+  wait-is e = rw (e, voice-at xs n h, row-at xs n 2 (omega arith), row-at xs n 3 (omega arith))
+
+  pub envelope-is : {p : Phase} {l w : ℕ} → p ≡ here .envelope .phase → l ≡ here .envelope .level → w ≡ here .envelope .wait → record { phase = p; level = l; wait = w } ≡ here .envelope
+  envelope-is e f g = rw (e, f, g)
 
   pub source-is : {a : ByteAddress} → a ≡ record { 0 = getD xs (404 + n) 0 * 8 } → record { address = a; repeat = record { 0 = getD xs (428 + n) 0 } } ≡ here .source
   unfolding voiceFrom place

@@ -158,13 +158,26 @@ pub fn envelope(state: &[u16], n: usize) -> Envelope
     requires { ⌜ (n < 24) × (length (now state) ≡ stateLength) ⌝ }
     ensures { λ r. ⌜ r ≡ voiceIn (now (state .entry)) n .envelope ⌝ }
 {
-    let phase = phase_of(state[PHASES + n]);
-    let wait = wide(state[WAITS + n], state[WAITS_HIGH + n]);
+    let phase = phase(state, n);
     Envelope {
         phase,
-        level: state[LEVELS + n],
-        wait,
+        level: level(state, n),
+        wait: wait(state, n),
     }
+}
+
+pub fn phase(state: &[u16], n: usize) -> Phase
+    requires { ⌜ (n < 24) × (length (now state) ≡ stateLength) ⌝ }
+    ensures { λ r. ⌜ r ≡ voiceIn (now (state .entry)) n .envelope .phase ⌝ }
+{
+    phase_of(state[PHASES + n])
+}
+
+pub fn wait(state: &[u16], n: usize) -> u32
+    requires { ⌜ (n < 24) × (length (now state) ≡ stateLength) ⌝ }
+    ensures { λ r. ⌜ r ≡ voiceIn (now (state .entry)) n .envelope .wait ⌝ }
+{
+    wide(state[WAITS + n], state[WAITS_HIGH + n])
 }
 
 pub fn level(state: &[u16], n: usize) -> u16

@@ -1,6 +1,6 @@
 // A run of ticks, on the buffer: the voices change in place, and what else a tick changes stays in locals from the first tick to the last.
 ghost use mathlib.Core.Path.{_≡_};
-ghost use Prim.Native.Nat.{_%_, _<_};
+ghost use Prim.Native.Nat.{_%_, _≤_, _<_};
 ghost use Rattle.envelope.specs.Adsr.{tickedOf};
 ghost use Rattle.gauss.specs.Gauss.{table as factors};
 ghost use Rattle.soundram.specs.Address.{Lent};
@@ -14,9 +14,8 @@ ghost use Rattle.tick.specs.Run.{joinOf, beginOf};
 ghost use Rattle.layout.specs.Layout.{stateOf, voiceIn, Formed, Holds};
 ghost use Rattle.layout.specs.Stores.{withVoice};
 ghost use Rattle.fast_path.specs.Steady.{steadyOf, Steps};
-ghost use Rattle.tick_runs.specs.Run.{Plays, PlaysAll, Runs};
+ghost use Rattle.tick_runs.specs.Run.{Plays, PlaysOn, PlaysAll, Runs};
 use chip::Control;
-use envelope::Envelope;
 use soundram::Watch;
 use tick::Going;
 use tick::Rest;
@@ -25,6 +24,12 @@ use tick::Rest;
 struct Played {
     amplitude: i16,
     watch: Watch,
+}
+
+// Whether it has played, and what it gave if so.
+struct PlayedOn {
+    done: bool,
+    amplitude: i16,
 }
 
 // The amplitudes of all voices.
@@ -70,69 +75,55 @@ fn play_load(
 }
 
 // The envelope of voice n takes its step. Most only wait, and look at no rate.
-fn step_envelope(regs: &[u16; 256], pmon: u32, non: u32, state: &mut [u16], n: usize, e: Envelope)
-    requires { ⌜ (n < 24) × Modulated (now regs) pmon × Flags (now regs) 0x194 non × Formed (now state) × (e ≡ voiceIn (now state) n .envelope) ⌝ }
-    ensures { λ _. ⌜ Holds (now (state .exit)) (withVoice (stateOf (now (state .entry))) n (withEnvelope (voiceIn (now (state .entry)) n) (tickedOf e (settingsOf (now (regs .entry)) n .low) (settingsOf (now (regs .entry)) n .high)))) ⌝ }
+fn step_envelope(regs: &[u16; 256], pmon: u32, non: u32, state: &mut [u16], n: usize)
+    requires { ⌜ (n < 24) × Modulated (now regs) pmon × Flags (now regs) 0x194 non × Formed (now state) ⌝ }
+    ensures { λ _. ⌜ Holds (now (state .exit)) (withVoice (stateOf (now (state .entry))) n (withEnvelope (voiceIn (now (state .entry)) n) (tickedOf (voiceIn (now (state .entry)) n .envelope) (settingsOf (now (regs .entry)) n .low) (settingsOf (now (regs .entry)) n .high)))) ⌝ }
 {
-    let phase = e.phase;
-    let wait = e.wait;
+    let phase = layout::phase(state, n);
+    let wait = layout::wait(state, n);
     if envelope_tick::waits(phase, wait) {
         layout::put_wait(state, n, wait - 1);
         return;
     }
     let s = voices::settings_by(regs, pmon, non, n);
-    layout::put_envelope(state, n, envelope_tick::tick(e, s.low, s.high));
+    let e = envelope_tick::tick(layout::envelope(state, n), s.low, s.high);
+    layout::put_envelope(state, n, e);
 }
 
-// Voice n plays its tick. Most stay in their block, on the fast path.
-fn play(
+// Voice n plays its tick if it needs no block: it is Idle, or stays in its block, as most do.
+fn play_on(
     table: &[i16; 512],
     regs: &[u16; 256],
     pmon: u32,
     non: u32,
     step: u16,
-    size: u32,
     state: &mut [u16],
     n: usize,
     below: i16,
     level: u16,
-    ram: &[u8],
-    marks: &[u8],
-    w: Watch,
-) -> Played
-    requires { ⌜ (now table ≡ factors) × (n < 24) × Modulated (now regs) pmon × Flags (now regs) 0x194 non × (step ≡ steadyOf (settingsOf (now regs) n)) × Formed (now state) × voice.InRange size (voiceIn (now state) n) × Lent size (now ram) (now marks) ⌝ }
-    ensures { λ r. ⌜ Plays size (now (regs .entry)) n below level (now (state .entry)) (memOf (now (ram .entry)) (now (marks .entry)) w) (r .amplitude) (now (state .exit)) (memOf (now (ram .entry)) (now (marks .entry)) (r .watch)) ⌝ }
+) -> PlayedOn
+    requires { ⌜ (now table ≡ factors) × (n < 24) × Modulated (now regs) pmon × Flags (now regs) 0x194 non × (step ≡ steadyOf (settingsOf (now regs) n)) × Formed (now state) × (voiceIn (now state) n .position .counter < 0x1000) × (voiceIn (now state) n .position .index ≤ 27) × (voiceIn (now state) n .envelope .level ≤ 0x7FFF) ⌝ }
+    ensures { λ r. ⌜ PlaysOn (now (regs .entry)) n below level (now (state .entry)) (r .done) (r .amplitude) (now (state .exit)) ⌝ }
 {
-    let e = layout::envelope(state, n);
-    let phase = e.phase;
+    let phase = layout::phase(state, n);
     if voice::is_idle(phase) {
-        return Played {
+        return PlayedOn {
+            done: true,
             amplitude: 0,
-            watch: w,
         };
     }
     let m = fast_path::stay(table, regs, pmon, non, state, n, step, below, level);
     if !layout::loaded(state, n) | (27 < m.target) {
-        return play_load(
-            table,
-            regs,
-            pmon,
-            non,
-            size,
-            state,
-            n,
-            below,
-            level,
-            ram,
-            marks,
-            w,
-        );
+        return PlayedOn {
+            done: false,
+            amplitude: 0,
+        };
     }
     layout::put_position(state, n, m.counter, m.target as u16);
-    step_envelope(regs, pmon, non, state, n, e);
-    Played {
+    step_envelope(regs, pmon, non, state, n);
+    PlayedOn {
+        done: true,
         amplitude: m.amplitude,
-        watch: w,
     }
 }
 
@@ -156,14 +147,21 @@ fn play_all(
     let mut amplitudes = [0i16; 24];
     let mut watch = w;
     let mut below = 0i16;
-    for n in 0..24usize {
+    let mut n = 0usize;
+    while n < 24 {
         let step = steps[n];
-        let p = play(
+        let q = play_on(table, regs, pmon, non, step, state, n, below, level);
+        if q.done {
+            below = q.amplitude;
+            amplitudes[n] = below;
+            n = n + 1;
+            continue;
+        }
+        let p = play_load(
             table,
             regs,
             pmon,
             non,
-            step,
             size,
             state,
             n,
@@ -173,10 +171,11 @@ fn play_all(
             marks,
             watch,
         );
-        below = p.amplitude;
-        amplitudes[n] = below;
         let seen = p.watch;
         watch = seen;
+        below = p.amplitude;
+        amplitudes[n] = below;
+        n = n + 1;
     }
     AllPlayed { amplitudes, watch }
 }

@@ -1,0 +1,41 @@
+use Rattle.layout.proofs.Read.{wait-is}
+use borrow.Author.Needs.{needs}
+use Rattle.layout.proofs.wait.Statement.{statement}
+use Rattle.layout.proofs.wait.Tie as tie
+
+add-wide : tie.Need-add-wide
+add-wide c = search needs
+
+mul-wide : tie.Need-mul-wide
+mul-wide c = search needs
+
+shared-slice-read-wide : tie.Need-shared-slice-read-wide
+shared-slice-read-wide c = search needs
+
+add-wide-2 : tie.Need-add-wide-2
+add-wide-2 c = search needs
+
+mul-wide-2 : tie.Need-mul-wide-2
+mul-wide-2 c = search needs
+
+shared-slice-read-wide-2 : tie.Need-shared-slice-read-wide-2
+shared-slice-read-wide-2 c = search needs
+
+wide-requires : tie.Need-wide-requires
+wide-requires c κs = search needs
+
+returns : tie.Need-returns
+returns c = search wait-is
+
+pub wait-spec : {M : Type 1} → statement M
+wait-spec =
+    tie.close
+    (tie.spec
+    add-wide
+    mul-wide
+    shared-slice-read-wide
+    add-wide-2
+    mul-wide-2
+    shared-slice-read-wide-2
+    wide-requires
+    returns)
