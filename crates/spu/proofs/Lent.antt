@@ -60,6 +60,10 @@ module _ (c : Call) (s : State) (r m : List ℕ) {n : ℕ} (e : n ≡ numberOf c
   unfolding outcomeOf stepOf
   outcome-accepted z f = rw (← e, z, f)
 
+  pub leaves-still : {a : Answer} {t : State} → n ≡ 0 → acceptedOf c s ≡ still a t → Leaves c s r m a false false t r m
+  unfolding outcome
+  leaves-still z f = leaves-of c s r m _ (outcome-accepted z f)
+
   -- p is what the call does, w the watch after it
   pub leaves-works : {p : Prog (Reply Answer State)} {a : Answer} {t : State} {w : Watch} {r′ m′ : List ℕ} → n ≡ 0 → acceptedOf c s ≡ works p
       → Does p (memOf r m (watchOf s)) (record { answer = a; state = t }) (memOf r′ m′ w)
