@@ -29,7 +29,7 @@ use Rattle.layout.proofs.Put.{flag-back, flag-most, wide-back}
 -- ---- read
 
 module _ (xs : List ℕ) where
-  tail-at : (j : ℕ) → j < tailLength → getD (partsOf xs .tail) j 0 ≡ getD xs (tailAt + j) 0
+  pub tail-at : (j : ℕ) → j < tailLength → getD (partsOf xs .tail) j 0 ≡ getD xs (tailAt + j) 0
   unfolding partsOf
   tail-at j h = region-at tailAt tailLength xs j h
 
@@ -41,7 +41,7 @@ module _ (xs : List ℕ) where
   unfolding stateOf stateFrom
   control-is = rw (tail-at 3 (omega arith), tail-at 4 (omega arith), tail-at 5 (omega arith))
 
-  capture-at : stateOf xs .capture ≡ getD xs 1274 0 * 2
+  pub capture-at : stateOf xs .capture ≡ getD xs 1274 0 * 2
   unfolding stateOf stateFrom
   capture-at = rw (tail-at 6 (omega arith))
 
@@ -51,7 +51,7 @@ module _ (xs : List ℕ) where
   pub capture-is : {r : ℕ} → r ≡ getD xs 1274 0 * 2 → r ≡ stateOf xs .capture
   capture-is e = e ∙ sym capture-at
 
-  place-at : stateOf xs .reverb .place .0 ≡ wide (getD xs 1275 0) (getD xs 1276 0) * 2
+  pub place-at : stateOf xs .reverb .place .0 ≡ wide (getD xs 1275 0) (getD xs 1276 0) * 2
   unfolding stateOf stateFrom
   place-at = rw (tail-at 7 (omega arith), tail-at 8 (omega arith))
 
@@ -64,7 +64,7 @@ module _ (xs : List ℕ) where
   reverb-is e f g =
       rw (e, f, g, tail-at 7 (omega arith), tail-at 8 (omega arith), tail-at 9 (omega arith), tail-at 10 (omega arith), tail-at 11 (omega arith))
 
-  transfer-at : stateOf xs .transfer .0 ≡ wide (getD xs 1282 0) (getD xs 1283 0) * 2
+  pub transfer-at : stateOf xs .transfer .0 ≡ wide (getD xs 1282 0) (getD xs 1283 0) * 2
   unfolding stateOf stateFrom
   transfer-at = rw (tail-at 14 (omega arith), tail-at 15 (omega arith))
 

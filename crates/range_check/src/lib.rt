@@ -1,0 +1,115 @@
+// Whether the state in a lent buffer is in range, tested where it stands: a loop for each array over the voices, so that eight voices are tested at a time.
+ghost use mathlib.Core.Path.{_≡_};
+ghost use mathlib.Core.Bool.{true, _&&_};
+ghost use Prim.Native.Nat.{_+_, _*_, _≤_};
+ghost use lib.Dec.{leb};
+ghost use lib.ListN.{length, getD};
+ghost use Rattle.fixed.specs.Tests.{allBelow};
+ghost use Rattle.soundram.specs.Address.{addressOf};
+ghost use Rattle.chip.specs.State.{sizeOk, everyOk, stateOk};
+ghost use Rattle.layout.specs.Layout.{stateLength, partsOf, stateOf, voiceIn, every, isTagged, isRow, isTail, isState};
+ghost use Rattle.range_check.specs.Waits.{waitOk};
+
+// Whether there is a sound RAM of size bytes.
+pub fn size_ok(size: u32) -> bool
+    ensures { λ r. ⌜ r ≡ sizeOk size ⌝ }
+{
+    (size == 0x10000) | (size == 0x80000)
+}
+
+// Whether a buffer has a state's length and tag.
+pub fn is_tagged(state: &[u16]) -> bool
+    ensures { λ r. ⌜ r ≡ isTagged (now (state .entry)) ⌝ }
+{
+    if state.len() != layout::LENGTH {
+        return false;
+    }
+    (state[0] == layout::TAG) & (state[1] == layout::VERSION)
+}
+
+// Whether each of the 24 halfwords from base on is at most most.
+fn at_most(state: &[u16], base: usize, most: u16) -> bool
+    requires { ⌜ base + 24 ≤ length (now state) ⌝ }
+    ensures { λ r. ⌜ r ≡ allBelow 24 (λ n. leb (getD (now (state .entry)) (base + n) 0) most) ⌝ }
+{
+    let mut ok = true;
+    for n in 0..24usize {
+        ok = ok & (state[base + n] <= most);
+    }
+    ok
+}
+
+// Whether each voice's wait is in range.
+fn waits(state: &[u16]) -> bool
+    requires { ⌜ length (now state) ≡ stateLength ⌝ }
+    ensures { λ r. ⌜ r ≡ allBelow 24 (λ n. waitOk (voiceIn (now (state .entry)) n .envelope)) ⌝ }
+{
+    let mut ok = true;
+    for n in 0..24usize {
+        let phase = state[layout::PHASES + n];
+        let wait = layout::wide(state[layout::WAITS + n], state[layout::WAITS_HIGH + n]);
+        ok = ok & ((wait <= 0x400000) & (((phase == 0) | (5 <= phase)) | (1 <= wait)));
+    }
+    ok
+}
+
+// The voices, in a sound RAM whose last unit is last.
+fn voices(state: &[u16], last: u16) -> bool
+    requires { ⌜ length (now state) ≡ stateLength ⌝ }
+    ensures { λ r. ⌜ r ≡ (every isRow (partsOf (now (state .entry)) .rows) && everyOk ((last + 1) * 8) (stateOf (now (state .entry)) .voices) 24) ⌝ }
+{
+    at_most(state, layout::PHASES, 5)
+        & (at_most(state, layout::LOADED, 1)
+            & (at_most(state, layout::FLAGS, 0xFF)
+                & (at_most(state, layout::ENDED, 1)
+                    & (at_most(state, layout::LEVELS, 0x7FFF)
+                        & (waits(state)
+                            & (at_most(state, layout::COUNTERS, 0xFFF)
+                                & (at_most(state, layout::INDICES, 27)
+                                    & at_most(state, layout::UNITS, last))))))))
+}
+
+// The last unit of a sound RAM, which has one of two sizes.
+fn last_unit(size: u32) -> u16
+    ensures { λ r. ⌜ (sizeOk size ≡ true → (r + 1) * 8 ≡ size) ⌝ }
+{
+    if size == 0x80000 {
+        return 0xFFFF;
+    }
+    0x1FFF
+}
+
+// The first halfword of a unit, in a sound RAM whose last unit is last.
+fn halfword_of(last: u16, unit: u16) -> u32
+    ensures { λ r. ⌜ (sizeOk ((last + 1) * 8) ≡ true → r * 2 ≡ addressOf ((last + 1) * 8) (record { 0 = unit }) .0) ⌝ }
+{
+    (unit & last) as u32 * 4
+}
+
+// All but the voices.
+fn rest(state: &[u16], size: u32, last: u16) -> bool
+    requires { ⌜ (length (now state) ≡ stateLength) × (size ≡ stateOf (now state) .choices .size) × (sizeOk size ≡ true → (last + 1) * 8 ≡ size) ⌝ }
+    ensures { λ r. ⌜ (sizeOk size ≡ true → (r && everyOk size (stateOf (now (state .entry)) .voices) 24) ≡ (isTail (partsOf (now (state .entry)) .tail) && stateOk (stateOf (now (state .entry))))) ⌝ }
+{
+    let base = halfword_of(last, state[layout::REGISTERS + 0xD1]);
+    let end = size / 2;
+    let place = layout::wide(state[layout::PLACE], state[layout::PLACE + 1]);
+    let transfer = layout::wide(state[layout::TRANSFER], state[layout::TRANSFER + 1]);
+    let timer = layout::wide(state[layout::TIMER], state[layout::TIMER + 1]);
+    (state[layout::LATCH] <= 1)
+        & ((state[layout::DOUBT] <= 1)
+            & ((state[layout::RIGHT] <= 1)
+                & ((state[layout::CAPTURE] < 0x200)
+                    & ((base <= place)
+                        & ((place < end) & ((transfer < end) & (timer <= 0x20000)))))))
+}
+
+// Whether a state stands in a buffer with its tag, every field within its range.
+pub fn check(state: &[u16]) -> bool
+    requires { ⌜ isTagged (now state) ≡ true ⌝ }
+    ensures { λ r. ⌜ r ≡ isState (now (state .entry)) ⌝ }
+{
+    let size = layout::size(state);
+    let last = last_unit(size);
+    size_ok(size) & (rest(state, size, last) & voices(state, last))
+}
