@@ -87,7 +87,7 @@ pub fn key_on(size: u32, start: UnitAddress, low: u16, high: u16) -> Voice
     v
 }
 
-fn goes_off(phase: Phase) -> bool
+pub fn goes_off(phase: Phase) -> bool
     ensures { λ r. ⌜ r ≡ goesOff phase ⌝ }
 {
     match phase {
