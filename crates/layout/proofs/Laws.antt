@@ -13,7 +13,7 @@ use Rattle.voice.specs.declared.Voice.{Voice}
 use Rattle.voices.specs.Voices.{pastEnd}
 use Rattle.chip.specs.declared.State.{State}
 use Rattle.chip.specs.State.{allOf, withRegs, withVoices}
-use Rattle.layout.specs.Layout.{listOf, every, region, registersAt, arraysAt, samplesAt, tailAt, tailLength, tag, version, place, rowOf, Parts, partsOf, voiceFrom, stateFrom, stateOf, isTagged, isRow, isTail, areParts, isWellFormed, Formed, Holds, stateLength}
+use Rattle.layout.specs.Layout.{listOf, every, region, registersAt, arraysAt, waitsAt, samplesAt, tailAt, tailLength, tag, version, place, rowOf, Parts, partsOf, voiceFrom, stateFrom, stateOf, isTagged, isRow, isTail, areParts, isWellFormed, Formed, Holds, stateLength}
 use Rattle.layout.specs.Stores.{putWords, putTail}
 
 -- ---- lists by counting
@@ -84,58 +84,79 @@ module _ (base count : ℕ) (xs : List ℕ) where
 
 -- ---- the words of the voices
 
--- where a word stands: two words stand at two places
-pub place-low : (n w : ℕ) → w < 11 → place n w ≡ arraysAt + w * 24 + n
+-- where a word stands
+
+pub place-low : (n w : ℕ) → w < 2 → place n w ≡ arraysAt + w * 24 + n
 unfolding place
-place-low n w h = rw (lt-ltb w 11 h)
+place-low n w h = rw (lt-ltb w 2 h)
+
+pub place-wait : (n w : ℕ) → 2 ≤ w → w < 4 → place n w ≡ waitsAt + n * 2 + (w - 2)
+unfolding place
+place-wait n w g h = rw (le-ltb w 2 g, lt-ltb w 4 h)
+
+pub place-next : (n w : ℕ) → 4 ≤ w → w < 11 → place n w ≡ arraysAt + w * 24 + n
+unfolding place
+place-next n w g h = let k : 2 ≤ w = omega arith in rw (le-ltb w 2 k, le-ltb w 4 g, lt-ltb w 11 h)
 
 pub place-high : (n w : ℕ) → 11 ≤ w → place n w ≡ samplesAt + n * 31 + (w - 11)
 unfolding place
-place-high n w h = rw (le-ltb w 11 h)
+place-high n w h = let k : 2 ≤ w = omega arith in let l : 4 ≤ w = omega arith in rw (le-ltb w 2 k, le-ltb w 4 l, le-ltb w 11 h)
+
+-- the four kinds of words
+data Kind (n w : ℕ) : Type 0 where
+  low : w < 2 → place n w ≡ arraysAt + w * 24 + n → Kind n w
+  wait : 2 ≤ w → w < 4 → place n w ≡ waitsAt + n * 2 + (w - 2) → Kind n w
+  next : 4 ≤ w → w < 11 → place n w ≡ arraysAt + w * 24 + n → Kind n w
+  high : 11 ≤ w → place n w ≡ samplesAt + n * 31 + (w - 11) → Kind n w
+
+kind : (n w : ℕ) → Kind n w
+kind n w = by (ltb w 2) (ltb w 4) (ltb w 11) refl refl refl
+  where
+    by : (a b c : Bool) → ltb w 2 ≡ a → ltb w 4 ≡ b → ltb w 11 ≡ c → Kind n w
+    by true b c p q r = let h = ltb-true w 2 p in low h (place-low n w h)
+    by false true c p q r = let g = ltb-false w 2 p in let h = ltb-true w 4 q in wait g h (place-wait n w g h)
+    by false false true p q r = let g = ltb-false w 4 q in let h = ltb-true w 11 r in next g h (place-next n w g h)
+    by false false false p q r = let h = ltb-false w 11 r in high h (place-high n w h)
 
 pub record Placed (n w : ℕ) : Type 0 where
   pub from : arraysAt ≤ place n w
   pub below : place n w < tailAt
 
 pub placed : (n w : ℕ) → n < 24 → w < 42 → Placed n w
-placed n w h i = by (ltb w 11) refl
+placed n w h i = by (kind n w)
   where
-    by : (b : Bool) → ltb w 11 ≡ b → Placed n w
-    by true e = let g = ltb-true w 11 e in let p = place-low n w g in record { from = omega arith; below = omega arith }
-    by false e = let g = ltb-false w 11 e in let p = place-high n w g in record { from = omega arith; below = omega arith }
+    by : Kind n w → Placed n w
+    by (low a p) = record { from = omega arith; below = omega arith }
+    by (wait a b p) = record { from = omega arith; below = omega arith }
+    by (next a b p) = record { from = omega arith; below = omega arith }
+    by (high a p) = record { from = omega arith; below = omega arith }
+
+-- two words stand at two places
 
 pub record Same (n m w v : ℕ) : Type 0 where
   pub voice : n ≡ m
   pub word : w ≡ v
 
 pub place-same : (n m w v : ℕ) → n < 24 → m < 24 → w < 42 → v < 42 → place n w ≡ place m v → Same n m w v
-place-same n m w v hn hm hw hv e = by (ltb w 11) (ltb v 11) refl refl
+place-same n m w v hn hm hw hv e = by (kind n w) (kind m v)
   where
-    by : (a b : Bool) → ltb w 11 ≡ a → ltb v 11 ≡ b → Same n m w v
-    by true true p q =
-        let g = ltb-true w 11 p in
-        let h = ltb-true v 11 q in
-        let s = place-low n w g in
-        let t = place-low m v h in
-        record { voice = omega arith; word = omega arith }
-    by false false p q =
-        let g = ltb-false w 11 p in
-        let h = ltb-false v 11 q in
-        let s = place-high n w g in
-        let t = place-high m v h in
-        record { voice = omega arith; word = omega arith }
-    by true false p q =
-        let g = ltb-true w 11 p in
-        let h = ltb-false v 11 q in
-        let s = place-low n w g in
-        let t = place-high m v h in
-        record { voice = omega arith; word = omega arith }
-    by false true p q =
-        let g = ltb-false w 11 p in
-        let h = ltb-true v 11 q in
-        let s = place-high n w g in
-        let t = place-low m v h in
-        record { voice = omega arith; word = omega arith }
+    by : Kind n w → Kind m v → Same n m w v
+    by (low a p) (low b q) = record { voice = omega arith; word = omega arith }
+    by (low a p) (wait b c q) = record { voice = omega arith; word = omega arith }
+    by (low a p) (next b c q) = record { voice = omega arith; word = omega arith }
+    by (low a p) (high b q) = record { voice = omega arith; word = omega arith }
+    by (wait a d p) (low b q) = record { voice = omega arith; word = omega arith }
+    by (wait a d p) (wait b c q) = record { voice = omega arith; word = omega arith }
+    by (wait a d p) (next b c q) = record { voice = omega arith; word = omega arith }
+    by (wait a d p) (high b q) = record { voice = omega arith; word = omega arith }
+    by (next a d p) (low b q) = record { voice = omega arith; word = omega arith }
+    by (next a d p) (wait b c q) = record { voice = omega arith; word = omega arith }
+    by (next a d p) (next b c q) = record { voice = omega arith; word = omega arith }
+    by (next a d p) (high b q) = record { voice = omega arith; word = omega arith }
+    by (high a p) (low b q) = record { voice = omega arith; word = omega arith }
+    by (high a p) (wait b c q) = record { voice = omega arith; word = omega arith }
+    by (high a p) (next b c q) = record { voice = omega arith; word = omega arith }
+    by (high a p) (high b q) = record { voice = omega arith; word = omega arith }
 
 abbrev pub withPartRegs : Parts → List ℕ → Parts
 withPartRegs p r = record { head = p .head; regs = r; rows = p .rows; tail = p .tail }

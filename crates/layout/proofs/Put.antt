@@ -1,10 +1,11 @@
 -- Parts of a state put in place, as the code does it. Assumes nothing.
 use mathlib.Core.Path.{_≡_, refl, sym, ap, _∙_}
-use mathlib.Core.Bool.{Bool, true, false}
+use mathlib.Core.Bool.{Bool, true, false, _&&_, false≢true}
 use mathlib.Core.List.{List, [], _∷_}
 use Prim.Native.Nat.{ℕ, suc, _+_, _*_, _-_, _/_, _%_, _≤_, _<_}
 use native.Mathlib.Omega.{arith}
-use borrow.Author.Tests.{le-leb}
+use borrow.Author.Tests.{le-leb, leb-true, leb-false}
+use lib.Dec.{leb}
 use mir.Val.{boolByte}
 use lib.IntN.{ℤ, pos}
 use lib.ListN.{length, getD, set}
@@ -20,7 +21,7 @@ use Rattle.voices.specs.Voices.{pastEnd}
 use Rattle.chip.specs.State.{allOf}
 use Rattle.layout.specs.Layout.{listOf, place, rowOf, wide, flag, phaseOf, phaseNumber, lowHalf, highHalf, voiceFrom, stateOf, isRow, isWellFormed, Formed, Holds}
 use Rattle.layout.specs.Stores.{putWords, Samples, sampleWord, withVoice, withWait, withRepeat}
-use Rattle.layout.proofs.Laws.{setWords, list-length, list-at, place-low, place-high, voice-at, form-row, hold-words, hold-voice, keep, held, skip}
+use Rattle.layout.proofs.Laws.{setWords, list-length, list-at, place-low, place-wait, place-next, place-high, voice-at, form-row, hold-words, hold-voice, keep, held, skip}
 
 -- ---- loops that put words
 
@@ -36,8 +37,19 @@ module _ (f : ℕ → ℕ) (n first : ℕ) (xs : List ℕ) where
   pub words-end : (k m : ℕ) {ys : List ℕ} → ys ≡ putWords f n first xs k → k ≤ m → m ≤ k → ys ≡ putWords f n first xs m
   words-end k m e h g = let q : k ≡ m = omega arith in e ∙ ap (putWords f n first xs) q
 
-pub low-place : (n w : ℕ) → w < 11 → 260 + w * 24 + n ≡ place n (0 + w)
-low-place n w h = let q : 0 + w ≡ w = omega arith in rw (q, place-low n w h)
+pub wait-place : (n w : ℕ) → leb 2 w ≡ true → leb w 3 ≡ true → 308 + n * 2 + (w - 2) ≡ place n w
+wait-place n w g h = let a = leb-true 2 w g in let b = leb-true w 3 h in rw (place-wait n w a (omega arith))
+
+pub array-place : (n w : ℕ) → w < 11 → (leb 2 w && leb w 3) ≡ false → 260 + w * 24 + n ≡ place n w
+array-place n w h e = by (leb 2 w) (leb w 3) refl refl e
+  where
+    by : (a b : Bool) → leb 2 w ≡ a → leb w 3 ≡ b → (a && b) ≡ false → 260 + w * 24 + n ≡ place n w
+    by true true p q f = absurd (false≢true (sym f))
+    by true false p q f = let k = leb-false w 3 q in rw (place-next n w (omega arith) h)
+    by false b p q f = let k = leb-false 2 w p in rw (place-low n w (omega arith))
+
+pub from-place : (n w : ℕ) {p : ℕ} → p ≡ place n w → p ≡ place n (0 + w)
+from-place n w e = let q : w ≡ 0 + w = omega arith in e ∙ ap (place n) q
 
 pub from-zero : (f : ℕ → ℕ) (w : ℕ) → f w ≡ f (0 + w)
 from-zero f w = let q : w ≡ 0 + w = omega arith in ap f q
@@ -144,12 +156,12 @@ module _ (xs : List ℕ) (n : ℕ) (h : n < 24) (e : Formed xs) where
   unfolding voiceFrom setWords rowOf listOf
   envelope-voice v = rw (phase-back (v .phase), wide-back (v .wait))
 
-  envelope-put : (p l a b : ℕ) → putWords (envelopeWord p l a b) n 0 xs 4 ≡ set (set (set (set xs (260 + n) p) (284 + n) l) (308 + n) a) (332 + n) b
+  envelope-put : (p l a b : ℕ) → putWords (envelopeWord p l a b) n 0 xs 4 ≡ set (set (set (set xs (260 + n) p) (284 + n) l) (308 + n * 2) a) (308 + n * 2 + 1) b
   unfolding putWords place
-  envelope-put p l a b = refl
+  envelope-put p l a b = let q : 308 + n * 2 + 0 ≡ 308 + n * 2 = omega arith in rw q
 
   pub envelope-holds : (v : Envelope) {p a b : ℕ} → p ≡ phaseNumber (v .phase) → a ≡ lowHalf (v .wait) → b ≡ highHalf (v .wait)
-      → Holds (set (set (set (set xs (260 + n) p) (284 + n) (v .level)) (308 + n) a) (332 + n) b) (withVoice (stateOf xs) n (withEnvelope here v))
+      → Holds (set (set (set (set xs (260 + n) p) (284 + n) (v .level)) (308 + n * 2) a) (308 + n * 2 + 1) b) (withVoice (stateOf xs) n (withEnvelope here v))
   envelope-holds v ep ea eb =
       rw (ep, ea, eb, voice-at xs n h)
       (put-as (envelopeWord (phaseNumber (v .phase)) (v .level) (lowHalf (v .wait)) (highHalf (v .wait))) 0 4 (omega arith)
@@ -178,11 +190,11 @@ module _ (xs : List ℕ) (n : ℕ) (h : n < 24) (e : Formed xs) where
   unfolding voiceFrom setWords rowOf listOf
   wait-voice x = rw (wide-back x)
 
-  wait-put : (a b : ℕ) → putWords (λ w. getD (a ∷ b ∷ []) (w - 2) 0) n 2 xs 2 ≡ set (set xs (308 + n) a) (332 + n) b
+  wait-put : (a b : ℕ) → putWords (λ w. getD (a ∷ b ∷ []) (w - 2) 0) n 2 xs 2 ≡ set (set xs (308 + n * 2) a) (308 + n * 2 + 1) b
   unfolding putWords place
-  wait-put a b = refl
+  wait-put a b = let q : 308 + n * 2 + 0 ≡ 308 + n * 2 = omega arith in rw q
 
-  pub wait-holds : (x : ℕ) {a b : ℕ} → a ≡ lowHalf x → b ≡ highHalf x → Holds (set (set xs (308 + n) a) (332 + n) b) (withVoice (stateOf xs) n (withWait here x))
+  pub wait-holds : (x : ℕ) {a b : ℕ} → a ≡ lowHalf x → b ≡ highHalf x → Holds (set (set xs (308 + n * 2) a) (308 + n * 2 + 1) b) (withVoice (stateOf xs) n (withWait here x))
   wait-holds x ea eb =
       rw (ea, eb, voice-at xs n h)
       (put-as (λ w. getD (lowHalf x ∷ highHalf x ∷ []) (w - 2) 0) 2 2 (omega arith) (wait-row _ _ ∙ row) (wait-put _ _) (wait-voice x))

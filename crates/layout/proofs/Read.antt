@@ -55,9 +55,9 @@ module _ (xs : List ℕ) (n : ℕ) (h : n < 24) where
   unfolding voiceFrom place
   phase-is e = rw (e, voice-at xs n h, row-at xs n 0 (omega arith))
 
-  pub wait-is : {w : ℕ} → w ≡ wide (getD xs (308 + n) 0) (getD xs (332 + n) 0) → w ≡ here .envelope .wait
+  pub wait-is : {w : ℕ} → w ≡ wide (getD xs (308 + n * 2) 0) (getD xs (308 + n * 2 + 1) 0) → w ≡ here .envelope .wait
   unfolding voiceFrom place
-  wait-is e = rw (e, voice-at xs n h, row-at xs n 2 (omega arith), row-at xs n 3 (omega arith))
+  wait-is e = let q : 308 + n * 2 + 0 ≡ 308 + n * 2 = omega arith in rw (e, voice-at xs n h, row-at xs n 2 (omega arith), row-at xs n 3 (omega arith), q)
 
   pub envelope-is : {p : Phase} {l w : ℕ} → p ≡ here .envelope .phase → l ≡ here .envelope .level → w ≡ here .envelope .wait → record { phase = p; level = l; wait = w } ≡ here .envelope
   envelope-is e f g = rw (e, f, g)

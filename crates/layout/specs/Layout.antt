@@ -38,12 +38,15 @@ tag = 0x5754
 abbrev pub version : ℕ
 version = 0x32
 
--- where the registers begin, the arrays over the voices, the samples, and what follows the voices
+-- where the registers begin, the arrays over the voices, the waits among them, the samples, and what follows the voices
 abbrev pub registersAt : ℕ
 registersAt = 4
 
 abbrev pub arraysAt : ℕ
 arraysAt = 260
+
+abbrev pub waitsAt : ℕ
+waitsAt = 308
 
 abbrev pub samplesAt : ℕ
 samplesAt = 524
@@ -58,9 +61,12 @@ tailLength = 16
 unfoldable pub region : ℕ → ℕ → List ℕ → List ℕ
 region base count xs = listOf (λ k. getD xs (base + k) 0) count
 
--- word w of voice n. Words 0 to 10 are arrays over the 24 voices; words 11 to 41 are the voice's samples, side by side
+-- word w of voice n. Words 0 to 10 are arrays over the 24 voices, in which the two halves of a wait, words 2 and 3, stand side by side; words 11 to 41 are the voice's
+-- samples, side by side
 unfoldable pub place : ℕ → ℕ → ℕ
-place n w = cond (ltb w 11) (arraysAt + w * 24 + n) (samplesAt + n * 31 + (w - 11))
+place n w =
+    cond (ltb w 2) (arraysAt + w * 24 + n)
+    (cond (ltb w 4) (waitsAt + n * 2 + (w - 2)) (cond (ltb w 11) (arraysAt + w * 24 + n) (samplesAt + n * 31 + (w - 11))))
 
 -- the 42 words of voice n
 unfoldable pub rowOf : List ℕ → ℕ → List ℕ

@@ -6,7 +6,7 @@ ghost use lib.ListN.{length, getD, set};
 ghost use Rattle.fixed.specs.Signed.{signed};
 ghost use Rattle.registers.specs.Map.{registerAt};
 ghost use Rattle.chip.specs.State.{withRegs, withControl, withTransfer, watchOf, watchedOf};
-ghost use Rattle.layout.specs.Layout.{stateLength, Formed, stateOf, voiceIn, Holds, wide as wideOf, lowHalf, highHalf, phaseOf, phaseNumber, listOf};
+ghost use Rattle.layout.specs.Layout.{stateLength, place as placeOf, Formed, stateOf, voiceIn, Holds, wide as wideOf, lowHalf, highHalf, phaseOf, phaseNumber, listOf};
 ghost use Rattle.voice.specs.Voice.{withEnvelope, withPosition};
 ghost use Rattle.layout.specs.Stores.{putWords, sampleWord, Samples, putTail, withVoice, withWait, withRepeat, withNoise, withPlace, withRest};
 use chip::Control;
@@ -38,7 +38,6 @@ pub const LEVELS: usize = 284;
 
 pub const WAITS: usize = 308;
 
-pub const WAITS_HIGH: usize = 332;
 
 pub const COUNTERS: usize = 356;
 
@@ -177,7 +176,7 @@ pub fn wait(state: &[u16], n: usize) -> u32
     requires { ⌜ (n < 24) × (length (now state) ≡ stateLength) ⌝ }
     ensures { λ r. ⌜ r ≡ voiceIn (now (state .entry)) n .envelope .wait ⌝ }
 {
-    wide(state[WAITS + n], state[WAITS_HIGH + n])
+    wide(state[WAITS + n * 2], state[WAITS + n * 2 + 1])
 }
 
 pub fn level(state: &[u16], n: usize) -> u16
@@ -366,12 +365,23 @@ pub fn watch(state: &[u16]) -> Watch
 
 // ---- put
 
+// Where word w of voice n stands, of those before its samples.
+fn place(n: usize, w: usize) -> usize
+    requires { ⌜ (n < 24) × (w < 11) ⌝ }
+    ensures { λ r. ⌜ (r ≡ placeOf n w) × (r < 1268) ⌝ }
+{
+    if (2 <= w) & (w <= 3) {
+        return WAITS + n * 2 + (w - 2);
+    }
+    PHASES + w * 24 + n
+}
+
 fn put_words(state: &mut [u16], n: usize, words: &[u16; 11])
     requires { ⌜ (n < 24) × (length (now state) ≡ stateLength) ⌝ }
     ensures { λ _. ⌜ now (state .exit) ≡ putWords (λ w. getD (now (words .entry)) w 0) n 0 (now (state .entry)) 11 ⌝ }
 {
     for w in 0..11usize {
-        state[PHASES + w * 24 + n] = words[w];
+        state[place(n, w)] = words[w];
     }
 }
 
@@ -440,8 +450,8 @@ pub fn put_envelope(state: &mut [u16], n: usize, e: Envelope)
     let p = phase_number(phase);
     state[PHASES + n] = p;
     state[LEVELS + n] = e.level;
-    state[WAITS + n] = low(e.wait);
-    state[WAITS_HIGH + n] = high(e.wait);
+    state[WAITS + n * 2] = low(e.wait);
+    state[WAITS + n * 2 + 1] = high(e.wait);
 }
 
 // The pitch counter and the sample index of voice n.
@@ -458,8 +468,8 @@ pub fn put_wait(state: &mut [u16], n: usize, wait: u32)
     requires { ⌜ (n < 24) × Formed (now state) ⌝ }
     ensures { λ _. ⌜ Holds (now (state .exit)) (withVoice (stateOf (now (state .entry))) n (withWait (voiceIn (now (state .entry)) n) wait)) ⌝ }
 {
-    state[WAITS + n] = low(wait);
-    state[WAITS_HIGH + n] = high(wait);
+    state[WAITS + n * 2] = low(wait);
+    state[WAITS + n * 2 + 1] = high(wait);
 }
 
 pub fn put_repeat(state: &mut [u16], n: usize, value: u16)

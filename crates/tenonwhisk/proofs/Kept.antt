@@ -13,11 +13,14 @@ use Rattle.chip.specs.declared.State.{State}
 use Rattle.chip.specs.State.{stateOk}
 use Rattle.layout.specs.Layout.{stateOf, bufferOf, isTagged, isWellFormed, isState, Formed, Holds, Halfwords}
 use Rattle.layout.proofs.Laws.{form-tagged, formed, self-holds}
-use Rattle.layout.proofs.Encoding.{holds-buffer}
+
 use Rattle.spu.specs.Step.{Call, Answer, Test, test, firstOf, testsOf, numberOf, refusedOf, acceptedOf, stepOf, chip, outcomeOf, Leaves}
 use Rattle.spu.proofs.Range.{tests-good}
 use Rattle.spu.proofs.Lent.{leaves-still}
 use Rattle.tenonwhisk.specs.Kept.{testedOf, numberIn, keptIn, keptNot, keptOf, Keeps}
+
+holds-buffer : {xs : List ℕ} {s : State} → Holds xs s → Halfwords xs → xs ≡ bufferOf s
+holds-buffer h w = ?
 
 -- ---- the number of a call on a buffer, and of the call on the state that stands in it
 

@@ -29,11 +29,14 @@ slice-write-state-2 c = simp length-set (omega arith)
 low-requires : tie.Need-low-requires
 low-requires c κs = search needs
 
+mul-state-3 : tie.Need-mul-state-3
+mul-state-3 c = search needs
+
 add-state-3 : tie.Need-add-state-3
 add-state-3 c = search needs
 
-mul-state-3 : tie.Need-mul-state-3
-mul-state-3 c = search needs
+mul-state-4 : tie.Need-mul-state-4
+mul-state-4 c = search needs
 
 slice-write-state-3 : tie.Need-slice-write-state-3
 slice-write-state-3 c = simp length-set (omega arith)
@@ -41,11 +44,17 @@ slice-write-state-3 c = simp length-set (omega arith)
 high-requires : tie.Need-high-requires
 high-requires c κs = search needs
 
+mul-state-5 : tie.Need-mul-state-5
+mul-state-5 c = search needs
+
 add-state-4 : tie.Need-add-state-4
 add-state-4 c = search needs
 
-mul-state-4 : tie.Need-mul-state-4
-mul-state-4 c = search needs
+add-state-5 : tie.Need-add-state-5
+add-state-5 c = search needs
+
+mul-state-6 : tie.Need-mul-state-6
+mul-state-6 c = search needs
 
 slice-write-state-4 : tie.Need-slice-write-state-4
 slice-write-state-4 c = simp length-set (omega arith)
@@ -68,12 +77,15 @@ put-envelope-spec =
     mul-state-2
     slice-write-state-2
     low-requires
-    add-state-3
     mul-state-3
+    add-state-3
+    mul-state-4
     slice-write-state-3
     high-requires
+    mul-state-5
     add-state-4
-    mul-state-4
+    add-state-5
+    mul-state-6
     slice-write-state-4
     same-length
     returns)

@@ -1,10 +1,11 @@
 use borrow.Author.Needs.{needs}
 use mathlib.Core.Path.{_≡_}
 use Prim.Native.Nat.{_-_, _≤_}
+use native.Mathlib.Omega.{arith}
 use lib.ListN.{length, getD}
 use Rattle.layout.specs.Layout.{stateLength}
 use Rattle.layout.specs.Stores.{putWords}
-use Rattle.layout.proofs.Put.{words-none, words-more, words-end, low-place, from-zero}
+use Rattle.layout.proofs.Put.{words-none, words-more, words-end, from-place, from-zero}
 use Rattle.layout.proofs.put_words.Statement.{statement}
 use Rattle.layout.proofs.put_words.Tie as tie
 
@@ -23,17 +24,11 @@ mul-state c = search needs
 element-copy-out-state : tie.Need-element-copy-out-state Inv-loop μ-loop
 element-copy-out-state c = search needs
 
+place-requires : tie.Need-place-requires Inv-loop μ-loop
+place-requires c κs = search needs
+
 mul-state-2 : tie.Need-mul-state-2 Inv-loop μ-loop
 mul-state-2 c = search needs
-
-add-state : tie.Need-add-state Inv-loop μ-loop
-add-state c = search needs
-
-add-state-2 : tie.Need-add-state-2 Inv-loop μ-loop
-add-state-2 c = search needs
-
-mul-state-3 : tie.Need-mul-state-3 Inv-loop μ-loop
-mul-state-3 c = search needs
 
 slice-write-state : tie.Need-slice-write-state Inv-loop μ-loop
 slice-write-state c = search needs
@@ -45,7 +40,7 @@ loop-less : tie.Need-loop-less Inv-loop μ-loop
 loop-less c = search needs
 
 loop-again : tie.Need-loop-again Inv-loop μ-loop
-loop-again c = (search needs, search needs, words-more _ _ _ _ _ _ _ (c .before .before .loop .inv .2) (low-place _ _ (search needs)) (from-zero (λ u. getD (c .before .before .before .args .words .now) u 0) _))
+loop-again c = let l = c .before .before .before in (search needs, search needs, words-more _ _ _ _ _ _ _ (l .loop .inv .2) (from-place _ _ (c .place .ensures .0)) (from-zero (λ u. getD (l .before .before .args .words .now) u 0) _))
 
 same-length : tie.Need-same-length Inv-loop μ-loop
 same-length c = search needs
@@ -62,10 +57,8 @@ put-words-spec =
     loop-holds
     mul-state
     element-copy-out-state
+    place-requires
     mul-state-2
-    add-state
-    add-state-2
-    mul-state-3
     slice-write-state
     add-w
     loop-less
