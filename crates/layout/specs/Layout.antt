@@ -243,8 +243,10 @@ unfoldable pub halfwordAt : State → ℕ → ℕ
 halfwordAt s i =
     cond (ltb i registersAt) (getD (headOf s) i 0)
     (cond (ltb i arraysAt) (getD (s .regs) (i - registersAt) 0)
+    (cond (ltb i waitsAt) (wordIn s ((i - arraysAt) % 24) ((i - arraysAt) / 24))
+    (cond (ltb i 356) (wordIn s ((i - waitsAt) / 2) (2 + (i - waitsAt) % 2))
     (cond (ltb i samplesAt) (wordIn s ((i - arraysAt) % 24) ((i - arraysAt) / 24))
-    (cond (ltb i tailAt) (wordIn s ((i - samplesAt) / 31) (11 + (i - samplesAt) % 31)) (getD (tailOf s) (i - tailAt) 0))))
+    (cond (ltb i tailAt) (wordIn s ((i - samplesAt) / 31) (11 + (i - samplesAt) % 31)) (getD (tailOf s) (i - tailAt) 0))))))
 
 unfoldable pub bufferOf : State → List ℕ
 bufferOf s = listOf (halfwordAt s) stateLength

@@ -19,7 +19,7 @@ use Rattle.chip.proofs.Tests.{sized}
 use Rattle.chip.proofs.Parts.{tested-size}
 use Rattle.layout.specs.Layout.{listOf, every, rowOf, partsOf, place, wide, phaseOf, voiceFrom, stateFrom, stateOf, voiceIn, isTagged, isRow, isTail, areParts, isWellFormed, isState, stateLength, tag, version}
 use Rattle.layout.proofs.Laws.{row-at, voice-at, register-at}
-use Rattle.layout.proofs.Read.{envelope-is}
+use Rattle.layout.proofs.Read.{phase-is}
 use Rattle.layout.proofs.Tail.{tail-at, noise-is, capture-at, place-at, transfer-at, register-is}
 use Rattle.range_check.specs.Waits.{waitOk}
 
@@ -127,10 +127,10 @@ module _ (xs : List ℕ) where
       let p : ℕ = suc (suc (suc (suc (suc n)))) in
       rw (ne-eqb p 0 (λ q. omega arith), ne-eqb p 1 (λ q. omega arith), ne-eqb p 2 (λ q. omega arith), ne-eqb p 3 (λ q. omega arith), ne-eqb p 4 (λ q. omega arith), le-leb 5 p (omega arith))
 
-  pub wait-tested : (n : ℕ) → n < 24 → {w : ℕ} → w ≡ wide (getD xs (308 + n) 0) (getD xs (332 + n) 0)
+  pub wait-tested : (n : ℕ) → n < 24 → {w : ℕ} → w ≡ voiceIn xs n .envelope .wait
       → (leb w 0x400000 && ((eqb (getD xs (260 + n) 0) 0 || leb 5 (getD xs (260 + n) 0)) || leb 1 w)) ≡ waiting n
   unfolding waitOk
-  wait-tested n h e = rw (← envelope-is xs n h refl e, resting)
+  wait-tested n h e = rw (e, ← phase-is xs n h refl, resting)
 
 -- ---- all but the voices
 

@@ -47,7 +47,7 @@ fn waits(state: &[u16]) -> bool
     let mut ok = true;
     for n in 0..24usize {
         let phase = state[layout::PHASES + n];
-        let wait = layout::wide(state[layout::WAITS + n], state[layout::WAITS_HIGH + n]);
+        let wait = layout::wait(state, n);
         ok = ok & ((wait <= 0x400000) & (((phase == 0) | (5 <= phase)) | (1 <= wait)));
     }
     ok

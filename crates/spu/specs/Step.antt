@@ -75,7 +75,7 @@ abbrev otherLent : State → ℕ → ℕ → Bool
 otherLent s ram marks = otherRam s ram || not (eqb marks (s .choices .size / 16))
 
 -- 2: "a state field outside its range", of whether all are in theirs
-abbrev outside : Bool → Test
+abbrev pub outside : Bool → Test
 outside good = test (not good) 2
 
 -- 6: the transfer mode

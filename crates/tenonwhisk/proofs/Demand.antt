@@ -108,7 +108,7 @@ unfolding anyUnmarked
 refused-alike [] b r t m len agree = both-end
 refused-alike (c ∷ cs) b r t m len agree =
     both-sure (record { report = refl; met = refl }) (record { report = refl; met = refl })
-    (record { answer = rw len; irq = refl; state = refl; marks = refl; len = len; ram = agree }) (refused-alike cs b r t m len agree)
+    (record { answer = ap (λ (k : ℕ). refusedOf c (numberIn c b k (length m))) len; irq = refl; state = refl; marks = refl; len = len; ram = agree }) (refused-alike cs b r t m len agree)
 
 -- ---- DEMAND 3
 

@@ -1,8 +1,8 @@
 -- Calls on a buffer, from the numbers that they give and what the calls on its state leave. Assumes nothing.
 use mathlib.Core.Path.{_≡_, refl, sym, ap, _∙_}
-use mathlib.Core.Bool.{Bool, true, false, cond, not, _&&_, false≢true}
+use mathlib.Core.Bool.{Bool, true, false, cond, not, _&&_, _||_, false≢true}
 use mathlib.Core.List.{List, [], _∷_}
-use Prim.Native.Nat.{ℕ, zero, suc}
+use Prim.Native.Nat.{ℕ, zero, suc, _/_}
 use native.Mathlib.Omega.{arith}
 use borrow.Author.Tests.{eqb-true, eq-eqb, ne-eqb, not-true, not-false}
 use lib.Dec.{eqb}
@@ -12,15 +12,15 @@ use Rattle.soundram.specs.Calls.{Doing, still, Outcome, outcome}
 use Rattle.chip.specs.declared.State.{State}
 use Rattle.chip.specs.State.{stateOk}
 use Rattle.layout.specs.Layout.{stateOf, bufferOf, isTagged, isWellFormed, isState, Formed, Holds, Halfwords}
-use Rattle.layout.proofs.Laws.{form-tagged, formed, self-holds}
+use Rattle.layout.proofs.Laws.{form-tagged, formed}
+use Rattle.layout.proofs.Encoding.{holds-buffer}
 
-use Rattle.spu.specs.Step.{Call, Answer, Test, test, firstOf, testsOf, numberOf, refusedOf, acceptedOf, stepOf, chip, outcomeOf, Leaves}
+use Rattle.spu.specs.Step.{Call, Answer, Test, test, firstOf, outside, lentTests, testsOf, numberOf, refusedOf, acceptedOf, stepOf, chip, outcomeOf, Leaves}
 use Rattle.spu.proofs.Range.{tests-good}
 use Rattle.spu.proofs.Lent.{leaves-still}
+use Rattle.spu.proofs.Numbers as numbers
+use Rattle.spu.proofs.Numbers.{here, later, lent-1, lent-2, lent-0}
 use Rattle.tenonwhisk.specs.Kept.{testedOf, numberIn, keptIn, keptNot, keptOf, Keeps}
-
-holds-buffer : {xs : List ℕ} {s : State} → Holds xs s → Halfwords xs → xs ≡ bufferOf s
-holds-buffer h w = ?
 
 -- ---- the number of a call on a buffer, and of the call on the state that stands in it
 
@@ -124,3 +124,26 @@ tested-on xs ss ts {n} {m} e z f = by (isTagged xs) e
       where
         no : _≡_ {A = ℕ} 0 2 → ⊥
         no q = omega arith
+
+-- ---- the code's tests, t that of the tag, z the L in the buffer, a that of the whole state
+
+pub tagged-is : (xs : List ℕ) {t : Bool} → t ≡ isTagged xs → not t ≡ false → isTagged xs ≡ true
+tagged-is xs e f = sym e ∙ not-false _ f
+
+module _ (xs : List ℕ) (ram marks : ℕ) {t : Bool} {z : ℕ} (e : t ≡ isTagged xs) (f : not t ≡ false) (ez : z ≡ stateOf xs .choices .size) where
+  pub lent-is-1 : (not (eqb ram z) || not (eqb marks (z / 16))) ≡ true → 1 ≡ testedOf xs (lentTests (isState xs) (stateOf xs) ram marks [])
+  lent-is-1 q = tagged-yes xs _ e f (lent-1 (isState xs) (stateOf xs) ram marks [] (rw ez at q))
+
+  module _ {a : Bool} (ea : a ≡ isState xs) (q : (not (eqb ram z) || not (eqb marks (z / 16))) ≡ false) where
+    pub lent-is-2 : not a ≡ true → 2 ≡ testedOf xs (lentTests (isState xs) (stateOf xs) ram marks [])
+    lent-is-2 n = tagged-yes xs _ e f (lent-2 (isState xs) (stateOf xs) ram marks [] (rw ez at q) ea n)
+
+    pub lent-is-0 : not a ≡ false → 0 ≡ testedOf xs (lentTests (isState xs) (stateOf xs) ram marks [])
+    lent-is-0 n = tagged-yes xs _ e f (lent-0 (isState xs) (stateOf xs) ram marks (rw ez at q) ea n)
+
+module _ (xs : List ℕ) {t a : Bool} (e : t ≡ isTagged xs) (f : not t ≡ false) (ea : a ≡ isState xs) where
+  pub state-is-2 : not a ≡ true → 2 ≡ testedOf xs (outside (isState xs) ∷ [])
+  state-is-2 n = tagged-yes xs _ e f (here _ 2 _ (rw (← ea) n))
+
+  pub state-is-0 : not a ≡ false → 0 ≡ testedOf xs (outside (isState xs) ∷ [])
+  state-is-0 n = tagged-yes xs _ e f (later _ 2 _ (rw (← ea) n) numbers.none)

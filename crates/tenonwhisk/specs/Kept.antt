@@ -45,6 +45,10 @@ pub record Keeps (c : Call) (b r m : List ℕ) (a : Answer) (i d : Bool) (b′ r
   pub marks : m′ ≡ keptOf c b r m .marks
   pub holds : isWellFormed b ≡ true → Holds b′ (outcomeOf c (stateOf b) r m .state)
 
+-- a run of n ticks reports if one of them, k, did
+abbrev pub reports : ℕ → ℕ → Bool
+reports k n = not (eqb k n)
+
 -- a call that is lent neither RAM nor marks, whatever they are
 abbrev pub KeepsStill : Call → List ℕ → Answer → List ℕ → Type 0
 KeepsStill c xs a ys = (ram marks : List ℕ) → Keeps c xs ram marks a false false ys ram marks

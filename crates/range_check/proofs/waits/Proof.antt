@@ -25,26 +25,8 @@ mul-phase c = search needs
 shared-slice-read-phase : tie.Need-shared-slice-read-phase Inv-loop μ-loop
 shared-slice-read-phase c = search needs
 
-add-wide : tie.Need-add-wide Inv-loop μ-loop
-add-wide c = search needs
-
-mul-wide : tie.Need-mul-wide Inv-loop μ-loop
-mul-wide c = search needs
-
-shared-slice-read-wide : tie.Need-shared-slice-read-wide Inv-loop μ-loop
-shared-slice-read-wide c = search needs
-
-add-wide-2 : tie.Need-add-wide-2 Inv-loop μ-loop
-add-wide-2 c = search needs
-
-mul-wide-2 : tie.Need-mul-wide-2 Inv-loop μ-loop
-mul-wide-2 c = search needs
-
-shared-slice-read-wide-2 : tie.Need-shared-slice-read-wide-2 Inv-loop μ-loop
-shared-slice-read-wide-2 c = search needs
-
-wide-requires : tie.Need-wide-requires Inv-loop μ-loop
-wide-requires c κs = search needs
+wait-requires : tie.Need-wait-requires Inv-loop μ-loop
+wait-requires c κs = search needs
 
 add-n : tie.Need-add-n Inv-loop μ-loop
 add-n c = search needs
@@ -53,7 +35,7 @@ loop-less : tie.Need-loop-less Inv-loop μ-loop
 loop-less c = search needs
 
 loop-again : tie.Need-loop-again Inv-loop μ-loop
-loop-again c = (search needs, all-more _ _ (c .before .before .before .before .before .loop .inv .1) (wait-tested _ _ (search needs) (c .wide .ensures)))
+loop-again c = (search needs, all-more _ _ (c .before .before .before .loop .inv .1) (wait-tested _ _ (search needs) (c .wait .ensures)))
 
 returns : tie.Need-returns Inv-loop μ-loop
 returns c = let v = c .before .loop .inv in all-tested _ _ _ (v .1) (v .0) (c .loop-test .left)
@@ -68,13 +50,7 @@ waits-spec =
     add-phase
     mul-phase
     shared-slice-read-phase
-    add-wide
-    mul-wide
-    shared-slice-read-wide
-    add-wide-2
-    mul-wide-2
-    shared-slice-read-wide-2
-    wide-requires
+    wait-requires
     add-n
     loop-less
     loop-again
