@@ -1,41 +1,64 @@
--- The calls on a state in the buffer that a caller lends. Assumes nothing.
+-- The calls on a state that a host keeps as bytes. Assumes nothing.
 use mathlib.Core.Path.{_≡_}
-use mathlib.Core.Bool.{Bool, true, false, cond, not}
+use mathlib.Core.Bool.{Bool, true, false, cond, _&&_, not}
 use mathlib.Core.List.{List, [], _∷_}
 use Prim.Native.Nat.{ℕ}
 use lib.Dec.{eqb}
-use lib.ListN.{length, take, drop}
-use Rattle.soundram.specs.Calls.{Outcome}
-use Rattle.chip.specs.State.{freshOf, sizeOk}
-use Rattle.layout.specs.Layout.{stateLength, stateOf, bufferOf, isTagged, isWellFormed, isState, Holds}
-use Rattle.spu.specs.Step.{Call, view, Answer, Test, test, firstOf, testsOf, refusedOf, outcomeOf}
+use lib.ListN.{length}
+use lib.IntN.{ℤ}
+use lib.Ieee.{Float}
+use Rattle.soundram.specs.Calls as calls
+use Rattle.chip.specs.declared.State.{State}
+use Rattle.chip.specs.State.{sizeOk, stateOk}
+use Rattle.image.specs.Image.{imageLength, imageOf, stateOf, isImage}
+use Rattle.spu.specs.Step.{Call, write, read, transferIn, transferOut, tick, tickFloats, run, runFloats, reset, view, status, Answer, test, firstOf, numberOf, refusedOf, outcomeOf, makeOf}
+use Rattle.host.specs.Run as host
+use Rattle.host.specs.Run.{numberedOf, ranOf, ranFloatsOf}
+use Rattle.tenonwhisk.specs.declared.Status.{Status}
+use Rattle.tenonwhisk.specs.declared.Ran.{Ran}
 
--- ---- numbers
+-- ---- the calls
 
--- of these tests, for a buffer of a state's length with its tag; 2 for any other. Number 1 compares lengths with the L that stands in the buffer, whatever it is, and
--- goes before number 2, "a state field outside its range", which every other buffer than a state's is given
-abbrev pub testedOf : List ℕ → List Test → ℕ
-testedOf xs ts = cond (isTagged xs) (firstOf ts) 2
+-- a register read, a block view and a status change no state, and the bytes are not written
+abbrev pub stores : Call → Bool
+stores (write offset v) = true
+stores (read offset) = false
+stores (transferIn vs) = true
+stores (transferOut b) = true
+stores (tick left right) = true
+stores (tickFloats left right) = true
+stores (run cd out) = true
+stores (runFloats cd out fs) = true
+stores reset = true
+stores (view a) = false
+stores status = false
 
-unfoldable pub numberIn : Call → List ℕ → ℕ → ℕ → ℕ
-numberIn c xs ram marks = testedOf xs (testsOf c (isState xs) (stateOf xs) ram marks)
+-- of bytes that are an image: the outcome of the core's call on the state that stands in them, whose image they are after an accepted call
+abbrev pub keptIn : Call → List ℕ → List ℕ → List ℕ → calls.Outcome Answer (List ℕ)
+keptIn c bytes ram marks =
+    let o = outcomeOf c (stateOf bytes) ram marks in
+    let done = stores c && eqb (numberOf c (stateOf bytes) (length ram) (length marks)) 0 in
+    record { answer = o .answer; irq = o .irq; doubt = o .doubt; state = cond done (imageOf (o .state)) bytes; ram = o .ram; marks = o .marks; accesses = o .accesses }
 
--- ---- what a call gives and leaves
+-- of others: 2, and everything as it was
+abbrev pub keptNot : Call → List ℕ → List ℕ → List ℕ → calls.Outcome Answer (List ℕ)
+keptNot c bytes ram marks = record { answer = refusedOf c 2; irq = false; doubt = false; state = bytes; ram = ram; marks = marks; accesses = [] }
 
--- accepted: the outcome of the call on the state that stands in the buffer, and the buffer of the state after it
-abbrev pub keptIn : Call → List ℕ → List ℕ → List ℕ → Outcome Answer (List ℕ)
-keptIn c xs ram marks =
-    let o = outcomeOf c (stateOf xs) ram marks in
-    record { answer = o .answer; irq = o .irq; doubt = o .doubt; state = bufferOf (o .state); ram = o .ram; marks = o .marks; accesses = o .accesses }
+-- all that a call gives and leaves
+unfoldable pub keptOf : Call → List ℕ → List ℕ → List ℕ → calls.Outcome Answer (List ℕ)
+keptOf c bytes ram marks = cond (isImage bytes) (keptIn c bytes ram marks) (keptNot c bytes ram marks)
 
--- refused: the number, and everything as it was
-abbrev pub keptNot : Call → ℕ → List ℕ → List ℕ → List ℕ → Outcome Answer (List ℕ)
-keptNot c n xs ram marks = record { answer = refusedOf c n; irq = false; doubt = false; state = xs; ram = ram; marks = marks; accesses = [] }
+-- bytes hold a state: they are an image, and it stands in them
+pub record Holds (bytes : List ℕ) (s : State) : Type 0 where
+  pub image : isImage bytes ≡ true
+  pub state : stateOf bytes ≡ s
 
-unfoldable pub keptOf : Call → List ℕ → List ℕ → List ℕ → Outcome Answer (List ℕ)
-keptOf c xs ram marks = let n = numberIn c xs (length ram) (length marks) in cond (eqb n 0) (keptIn c xs ram marks) (keptNot c n xs ram marks)
+-- the bytes after a call that gave n and left s
+pub record Stored (n : ℕ) (s : State) (bytes bytes′ : List ℕ) : Type 0 where
+  pub is : bytes′ ≡ cond (eqb n 0) (imageOf s) bytes
+  pub holds : n ≡ 0 → Holds bytes′ s
 
--- a call gives this answer and these reports, and leaves this buffer, RAM and marks; and a buffer that held a state then holds the state that the call leaves
+-- a call gives this answer and these reports, and leaves these bytes, RAM and marks; and an image then holds the state that the core's call leaves
 pub record Keeps (c : Call) (b r m : List ℕ) (a : Answer) (i d : Bool) (b′ r′ m′ : List ℕ) : Type 0 where
   pub answer : a ≡ keptOf c b r m .answer
   pub irq : i ≡ keptOf c b r m .irq
@@ -43,35 +66,67 @@ pub record Keeps (c : Call) (b r m : List ℕ) (a : Answer) (i d : Bool) (b′ r
   pub state : b′ ≡ keptOf c b r m .state
   pub ram : r′ ≡ keptOf c b r m .ram
   pub marks : m′ ≡ keptOf c b r m .marks
-  pub holds : isWellFormed b ≡ true → Holds b′ (outcomeOf c (stateOf b) r m .state)
+  pub holds : isImage b ≡ true → Holds b′ (outcomeOf c (stateOf b) r m .state)
 
--- a run of n ticks reports if one of them, k, did
-abbrev pub reports : ℕ → ℕ → Bool
-reports k n = not (eqb k n)
-
--- a call that is lent neither RAM nor marks, whatever they are
+-- a call that is lent neither, whatever stands in them
 abbrev pub KeepsStill : Call → List ℕ → Answer → List ℕ → Type 0
-KeepsStill c xs a ys = (ram marks : List ℕ) → Keeps c xs ram marks a false false ys ram marks
+KeepsStill c bytes a bytes′ = (ram marks : List ℕ) → Keeps c bytes ram marks a false false bytes′ ram marks
 
--- ---- "Making a state for another L gives 1 and the fresh state for 65,536.": 2 for a buffer of another length, which stays
+-- of a block view a host is given the number: the view has sixteen bytes where that is 0
+abbrev pub viewLength : ℕ → ℕ
+viewLength n = cond (eqb n 0) 16 0
+
+-- ---- a run of ticks
+
+pub record Run : Type 0 where
+  pub ran : Ran
+  pub state : List ℕ
+  pub ram : List ℕ
+  pub marks : List ℕ
+  pub out : List ℤ
+
+-- a run of the core, on the state that stands in the bytes
+abbrev pub runIn : List ℕ → host.Outcome → Run
+runIn bytes o =
+    record {
+      ran = record { number = o .number; count = o .count; irq = o .run .irq; doubt = o .run .doubt };
+      state = cond (eqb (o .number) 0) (imageOf (o .run .state)) bytes;
+      ram = o .run .ram;
+      marks = o .run .marks;
+      out = o .run .out;
+    }
+
+-- of bytes that are no image it gives 2
+unfoldable pub keptRunOf : List ℕ → List ℕ → List ℕ → List ℤ → List ℤ → Run
+keptRunOf bytes ram marks cd out =
+    let s = stateOf bytes in
+    runIn bytes (cond (isImage bytes) (ranOf s ram marks cd out) (numberedOf 2 s ram marks cd out))
+
+pub record RunFloats : Type 0 where
+  pub run : Run
+  pub floats : List Float
+
+unfoldable pub keptFloatsOf : List ℕ → List ℕ → List ℕ → List ℤ → List ℤ → List Float → RunFloats
+keptFloatsOf bytes ram marks cd out fs =
+    let s = stateOf bytes in
+    let f = cond (isImage bytes) (ranFloatsOf s ram marks cd out fs) (record { ran = numberedOf 2 s ram marks cd out; floats = fs }) in
+    record { run = runIn bytes (f .ran); floats = f .floats }
+
+-- ---- "Making a state for another L gives 1 and the fresh state for 65,536.": 2 of bytes that no image fits, which stay
 
 pub record Made : Type 0 where
   pub number : ℕ
   pub state : List ℕ
 
-unfoldable pub makeOf : ℕ → List ℕ → Made
-makeOf size xs =
-    let fits = eqb (length xs) stateLength in
-    record {
-      number = firstOf (test (not (sizeOk size)) 1 ∷ test (not fits) 2 ∷ []);
-      state = cond fits (bufferOf (freshOf (cond (sizeOk size) size 0x10000))) xs;
-    }
+unfoldable pub keptMakeOf : ℕ → List ℕ → Made
+keptMakeOf size bytes =
+    let fits = eqb (length bytes) imageLength in
+    record { number = firstOf (test (not (sizeOk size)) 1 ∷ test (not fits) 2 ∷ []); state = cond fits (imageOf (makeOf size .state)) bytes }
 
--- ---- "The block view gives back the caller's own sixteen bytes of sound RAM", "an empty view" on refusal
+-- ---- a look at a state; 2 of one that every call would refuse
 
-unfoldable pub viewOf : List ℕ → List ℕ → ℕ → List ℕ
-viewOf xs ram a = cond (eqb (numberIn (view a) xs (length ram) 0) 0) (take 16 (drop a ram)) []
-
--- a view has sixteen bytes where its number is 0
-abbrev pub viewLength : ℕ → ℕ
-viewLength n = cond (eqb n 0) 16 0
+unfoldable pub statusOf : List ℕ → Status
+statusOf bytes =
+    let s = stateOf bytes in
+    cond (isImage bytes && stateOk s) (record { number = 0; doubt = s .control .doubt; size = s .choices .size; tick = s .tick })
+    (record { number = 2; doubt = false; size = 0; tick = 0 })

@@ -1,37 +1,34 @@
-// The calls on a state in the buffer that a caller lends: what each is, and the numbers that they share. The crates over this one are the calls, which
-// host/tenonwhisk.h declares.
+// The calls for hosts in C and Rust, on a state that the host keeps as bytes: what each is, and the state after it. The crates over this one are the calls,
+// which host/tenonwhisk.h declares.
 ghost use mathlib.Core.Path.{_≡_};
-ghost use mathlib.Core.List.{[], _∷_};
-ghost use Rattle.layout.specs.Layout.{stateOf, isState};
-ghost use Rattle.spu.specs.Step.{outside, lentTests};
-ghost use Rattle.tenonwhisk.specs.Kept.{testedOf};
+ghost use lib.ListN.{length};
+ghost use Rattle.image.specs.Image.{imageLength};
+ghost use Rattle.tenonwhisk.specs.Kept.{Stored};
+use chip::State;
 
-// 2 for a buffer that is not a state, or 0.
-pub fn state_number(state: &[u16]) -> u8
-    ensures { λ r. ⌜ r ≡ testedOf (now (state .entry)) (outside (isState (now (state .entry))) ∷ []) ⌝ }
-{
-    if !range_check::is_tagged(state) {
-        return 2;
-    }
-    if !range_check::check(state) {
-        return 2;
-    }
-    0
+#[repr(C)]
+pub struct Status {
+    pub number: u8,
+    pub doubt: bool,
+    pub size: u32,
+    pub tick: u32,
 }
 
-// 1 or 2, or 0 where neither applies, of the lengths of what is lent.
-pub fn lent_number(state: &[u16], ram: usize, marks: usize) -> u8
-    ensures { λ r. ⌜ r ≡ testedOf (now (state .entry)) (lentTests (isState (now (state .entry))) (stateOf (now (state .entry))) ram marks []) ⌝ }
+#[repr(C)]
+pub struct Ran {
+    pub number: u8,
+    pub count: usize,
+    pub irq: usize,
+    pub doubt: usize,
+}
+
+// The state goes into the bytes if the call was not refused.
+pub fn keep(number: u8, s: State, state: &mut [u8])
+    requires { ⌜ length (now state) ≡ imageLength ⌝ }
+    ensures { λ _. ⌜ Stored number s (now (state .entry)) (now (state .exit)) ⌝ }
 {
-    if !range_check::is_tagged(state) {
-        return 2;
+    if number != 0 {
+        return;
     }
-    let size = layout::size(state) as usize;
-    if (ram != size) | (marks != size / 16) {
-        return 1;
-    }
-    if !range_check::check(state) {
-        return 2;
-    }
-    0
+    image_store::store(s, state);
 }

@@ -1,8 +1,8 @@
 use Rattle.layout.proofs.Laws.{tagged-length}
-use Rattle.tenonwhisk.proofs.Kept.{tagged-not, tagged-is, lent-is-1, lent-is-2, lent-is-0}
+use Rattle.calls.proofs.Kept.{tagged-not, tagged-is, lent-is-1, lent-is-2, lent-is-0}
 use borrow.Author.Needs.{needs}
-use Rattle.tenonwhisk.proofs.lent_number.Statement.{statement}
-use Rattle.tenonwhisk.proofs.lent_number.Tie as tie
+use Rattle.calls.proofs.lent_number.Statement.{statement}
+use Rattle.calls.proofs.lent_number.Tie as tie
 
 is-tagged-requires : tie.Need-is-tagged-requires
 is-tagged-requires c κs = search needs

@@ -6,7 +6,7 @@ use Rattle.soundram.specs.Calls.{Outcome}
 use Rattle.chip.specs.declared.State.{State}
 use Rattle.layout.specs.Layout.{stateOf, isWellFormed}
 use Rattle.spu.specs.Step.{Call, Answer}
-use Rattle.tenonwhisk.specs.Kept.{keptOf, Keeps}
+use Rattle.calls.specs.Kept.{keptOf, Keeps}
 
 -- what the calls of a list gave, each on the buffer, RAM and marks that the one before it left; the accesses are those that the definition makes
 pub data Gave : List Call → List ℕ → List ℕ → List ℕ → List (Outcome Answer (List ℕ)) → Type 0 where

@@ -1,7 +1,7 @@
-use Rattle.tenonwhisk.proofs.Kept.{tagged-not, tagged-is, state-is-2, state-is-0}
+use Rattle.calls.proofs.Kept.{tagged-not, tagged-is, state-is-2, state-is-0}
 use borrow.Author.Needs.{needs}
-use Rattle.tenonwhisk.proofs.state_number.Statement.{statement}
-use Rattle.tenonwhisk.proofs.state_number.Tie as tie
+use Rattle.calls.proofs.state_number.Statement.{statement}
+use Rattle.calls.proofs.state_number.Tie as tie
 
 is-tagged-requires : tie.Need-is-tagged-requires
 is-tagged-requires c κs = search needs

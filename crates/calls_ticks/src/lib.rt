@@ -5,7 +5,7 @@ ghost use lib.ListN.{length};
 ghost use Rattle.stereo.specs.Float.{floatOf};
 ghost use Rattle.layout.specs.Layout.{stateOf, isState};
 ghost use Rattle.spu.specs.Step.{pair, floats as floated, ran, ranFloats, tick as ticking, tickFloats, run as running, runFloats, lentTests, runTests};
-ghost use Rattle.tenonwhisk.specs.Kept.{testedOf, Keeps, reports};
+ghost use Rattle.calls.specs.Kept.{testedOf, Keeps, reports};
 
 #[repr(C)]
 pub struct Ticked {
@@ -45,7 +45,7 @@ pub extern "C" fn tenonwhisk_tick(
 ) -> Ticked
     ensures { λ r. ⌜ Keeps (ticking left right) (now (state .entry)) (now (ram .entry)) (now (marks .entry)) (pair (r .number) (record { left = r .left; right = r .right })) (r .irq) (r .doubt) (now (state .exit)) (now (ram .exit)) (now (marks .exit)) ⌝ }
 {
-    let number = tenonwhisk::lent_number(state, ram.len(), marks.len());
+    let number = calls::lent_number(state, ram.len(), marks.len());
     if number != 0 {
         return Ticked {
             number,
@@ -93,7 +93,7 @@ pub extern "C" fn tenonwhisk_tick_floats(
 fn run_number(state: &[u16], ram: usize, marks: usize, cd: usize, out: usize) -> u8
     ensures { λ r. ⌜ r ≡ testedOf (now (state .entry)) (lentTests (isState (now (state .entry))) (stateOf (now (state .entry))) ram marks (runTests cd out)) ⌝ }
 {
-    let number = tenonwhisk::lent_number(state, ram, marks);
+    let number = calls::lent_number(state, ram, marks);
     if number != 0 {
         return number;
     }
