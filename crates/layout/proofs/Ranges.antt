@@ -1,11 +1,10 @@
 -- A buffer is a state exactly if it is well-formed and what stands in it is in range. Assumes nothing.
-use mathlib.Core.Path.{_≡_, refl, sym, _∙_}
+use mathlib.Core.Path.{_≡_}
 use mathlib.Core.Bool.{true, false}
 use mathlib.Core.List.{List}
 use Prim.Native.Nat.{ℕ}
 use Rattle.fixed.proofs.Bools.{and-first, and-rest}
 use Rattle.chip.specs.declared.State.{State}
-use Rattle.chip.specs.State.{stateOk}
 use Rattle.chip.specs.Range.{InRange}
 use Rattle.chip.proofs.Tests.{in-range, passes}
 use Rattle.layout.specs.Layout.{stateOf, isTagged, isWellFormed, isState, Formed, Holds}

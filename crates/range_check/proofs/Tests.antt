@@ -1,24 +1,25 @@
 -- The tests of a state, as the code makes them: the voices array by array, and the rest. Assumes nothing.
 use mathlib.Core.Path.{_≡_, refl, sym, ap, _∙_}
-use mathlib.Core.Bool.{Bool, true, false, not, cond, _&&_, _||_, and-assoc, and-comm, and-true, and-false}
+use mathlib.Core.Bool.{Bool, true, false, not, _&&_, _||_, and-assoc, and-comm, and-true, and-false}
 use mathlib.Core.List.{List, [], _∷_, _++_}
-use Prim.Native.Nat.{ℕ, zero, suc, _+_, _-_, _*_, _/_, _%_, _^_, _≤_, _<_}
+use Prim.Native.Nat.{ℕ, zero, suc, _+_, _-_, _*_, _/_, _%_, _≤_, _<_}
 use native.Mathlib.Omega.{arith}
 use mathlib.Core.Logic.{_⊎_, inl, inr, ⊎-elim}
-use borrow.Author.Tests.{leb-true, le-leb, lt-leb, ltb-true, lt-ltb, eq-eqb, ne-eqb, eqb-true, eqb-false}
+use borrow.Author.Tests.{leb-true, le-leb, eq-eqb, ne-eqb, eqb-true}
 use lib.Bits.{bitAnd, and-mask}
 use lib.Dec.{leb, ltb, eqb}
 use lib.ListN.{length, getD}
 use Rattle.fixed.specs.Tests.{allBelow}
-use Rattle.fixed.proofs.Bools.{all-and, all-more}
+use Rattle.fixed.proofs.Bools.{all-and}
+use Rattle.envelope.specs.declared.Envelope.{Envelope}
 use Rattle.envelope.specs.Adsr.{active}
 use Rattle.noise.specs.declared.Noise.{Noise}
 use Rattle.soundram.specs.Address.{addressOf}
 use Rattle.chip.specs.State.{allOf, sizeOk, voiceOk, everyOk, baseOf, stateOk}
 use Rattle.chip.proofs.Tests.{sized}
 use Rattle.chip.proofs.Parts.{tested-size}
-use Rattle.layout.specs.Layout.{listOf, every, rowOf, partsOf, place, wide, phaseOf, voiceFrom, stateFrom, stateOf, voiceIn, isTagged, isRow, isTail, areParts, isWellFormed, isState, stateLength, tag, version}
-use Rattle.layout.proofs.Laws.{row-at, voice-at, register-at}
+use Rattle.layout.specs.Layout.{listOf, every, rowOf, partsOf, place, wide, phaseOf, voiceFrom, stateOf, voiceIn, isTagged, isRow, isTail, areParts, isWellFormed, isState, stateLength, tag, version}
+use Rattle.layout.proofs.Laws.{row-at, voice-at}
 use Rattle.layout.proofs.Read.{phase-is}
 use Rattle.layout.proofs.Tail.{tail-at, noise-is, capture-at, place-at, transfer-at, register-is}
 use Rattle.range_check.specs.Waits.{waitOk}
@@ -32,6 +33,10 @@ same false false f g = refl
 
 same-test : (a b c d : ℕ) → (a ≤ b → c ≤ d) → (c ≤ d → a ≤ b) → leb a b ≡ leb c d
 same-test a b c d f g = same _ _ (λ e. le-leb c d (f (leb-true a b e))) (λ e. le-leb a b (g (leb-true c d e)))
+
+swap : (a b c : Bool) → (a && (b && c)) ≡ (b && (a && c))
+swap true b c = refl
+swap false b c = sym (and-false b)
 
 -- ---- L and its last unit
 
@@ -56,6 +61,12 @@ unit-within last unit h e = by (sizes ((last + 1) * 8) e)
     by (inr p) = let q : last ≡ 0xFFFF = omega arith in let m = and-mask unit 16 in rw q (omega arith)
 
 -- ---- array by array is voice by voice
+
+-- the tests of one voice, in the code's order and in the definitions'
+grouped : (p v w a c i u l f e : Bool)
+    → (p && (v && ((w && a) && (c && (i && (u && (l && (f && e))))))))
+    ≡ ((p && (l && (f && (e && true)))) && (v && (w && (a && (c && (i && (true && (u && true))))))))
+grouped p v w a c i u l f e = simp (and-assoc, and-comm, swap, and-true)
 
 all-same : (f g : ℕ → Bool) (n : ℕ) → ((k : ℕ) → k < n → f k ≡ g k) → allBelow n f ≡ allBelow n g
 unfolding allBelow
@@ -83,10 +94,11 @@ module _ (xs : List ℕ) where
   waiting n = waitOk (voiceIn xs n .envelope)
 
   one-voice : (last n : ℕ) → n < 24
-      → (column 260 5 n && (column 452 1 n && (column 476 0xFF n && (column 500 1 n && (column 284 0x7FFF n && (waiting n && (column 356 0xFFF n && (column 380 27 n && column 404 last n))))))))
+      → (column 260 5 n && (column 284 0x7FFF n && (waiting n && (column 356 0xFFF n && (column 380 27 n && (column 404 last n && (column 452 1 n && (column 476 0xFF n && column 500 1 n))))))))
       ≡ (isRow (rowOf xs n) && voiceOk ((last + 1) * 8) (voiceIn xs n))
   unfolding isRow voiceOk allOf waitOk place voiceFrom
   one-voice last n h =
+      let here : Envelope = record { phase = phaseOf (getD xs (260 + n) 0); level = getD xs (284 + n) 0; wait = wide (getD xs (308 + n) 0) (getD xs (332 + n) 0) } in
       rw (
         voice-at xs n h,
         row-at xs n 0 (omega arith),
@@ -103,10 +115,11 @@ module _ (xs : List ℕ) where
         same-test (getD xs (404 + n) 0) last (suc (getD xs (404 + n) 0 * 8)) ((last + 1) * 8) (λ i. omega arith) (λ i. omega arith),
         eq-eqb (getD xs (404 + n) 0 * 8 % 8) 0 (omega arith),
       )
-      (simp (and-assoc, and-true))
+      (grouped (column 260 5 n) (column 284 0x7FFF n) (leb (here .wait) 0x400000) (not (active (here .phase)) || leb 1 (here .wait)) (ltb (getD xs (356 + n) 0) 0x1000) (column 380 27 n)
+      (ltb (getD xs (404 + n) 0 * 8) ((last + 1) * 8)) (column 452 1 n) (column 476 0xFF n) (column 500 1 n))
 
-  pub voices-tested : (last : ℕ) {a b c d e f g h i : Bool} → a ≡ allBelow 24 (column 260 5) → b ≡ allBelow 24 (column 452 1) → c ≡ allBelow 24 (column 476 0xFF) → d ≡ allBelow 24 (column 500 1)
-      → e ≡ allBelow 24 (column 284 0x7FFF) → f ≡ allBelow 24 waiting → g ≡ allBelow 24 (column 356 0xFFF) → h ≡ allBelow 24 (column 380 27) → i ≡ allBelow 24 (column 404 last)
+  pub voices-tested : (last : ℕ) {a b c d e f g h i : Bool} → a ≡ allBelow 24 (column 260 5) → b ≡ allBelow 24 (column 284 0x7FFF) → c ≡ allBelow 24 waiting → d ≡ allBelow 24 (column 356 0xFFF)
+      → e ≡ allBelow 24 (column 380 27) → f ≡ allBelow 24 (column 404 last) → g ≡ allBelow 24 (column 452 1) → h ≡ allBelow 24 (column 476 0xFF) → i ≡ allBelow 24 (column 500 1)
       → (a && (b && (c && (d && (e && (f && (g && (h && i)))))))) ≡ (every isRow (partsOf xs .rows) && everyOk ((last + 1) * 8) (stateOf xs .voices) 24)
   unfolding partsOf
   voices-tested last ea eb ec ed ee ef eg eh ei =
@@ -191,10 +204,6 @@ other-length xs h = rw (ne-eqb (length xs) stateLength h)
 pub tag-tested : (xs : List ℕ) → length xs ≡ stateLength → (eqb (getD xs 0 0) tag && eqb (getD xs 1 0) version) ≡ isTagged xs
 unfolding isTagged allOf
 tag-tested xs h = rw (eq-eqb (length xs) stateLength h, and-true (eqb (getD xs 1 0) version))
-
-swap : (a b c : Bool) → (a && (b && c)) ≡ (b && (a && c))
-swap true b c = refl
-swap false b c = sym (and-false b)
 
 -- a is the test of all but the voices, b that of the voices
 pub state-tested : (xs : List ℕ) (last : ℕ) (a : Bool) {size : ℕ} {z b : Bool} → isTagged xs ≡ true → size ≡ stateOf xs .choices .size → (sizeOk size ≡ true → (last + 1) * 8 ≡ size) → z ≡ sizeOk size

@@ -9,6 +9,9 @@ at-most-requires c κs = search needs
 at-most-requires-2 : tie.Need-at-most-requires-2
 at-most-requires-2 c κs = search needs
 
+waits-requires : tie.Need-waits-requires
+waits-requires c κs = search needs
+
 at-most-requires-3 : tie.Need-at-most-requires-3
 at-most-requires-3 c κs = search needs
 
@@ -17,9 +20,6 @@ at-most-requires-4 c κs = search needs
 
 at-most-requires-5 : tie.Need-at-most-requires-5
 at-most-requires-5 c κs = search needs
-
-waits-requires : tie.Need-waits-requires
-waits-requires c κs = search needs
 
 at-most-requires-6 : tie.Need-at-most-requires-6
 at-most-requires-6 c κs = search needs
@@ -39,10 +39,10 @@ voices-spec =
     (tie.spec
     at-most-requires
     at-most-requires-2
+    waits-requires
     at-most-requires-3
     at-most-requires-4
     at-most-requires-5
-    waits-requires
     at-most-requires-6
     at-most-requires-7
     at-most-requires-8
