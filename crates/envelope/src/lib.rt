@@ -91,12 +91,19 @@ pub fn rate_of(phase: Phase, low: u16, high: u16) -> Rate
     }
 }
 
+// a - b, and 0 where b is above a.
+fn above(a: u32, b: u32) -> u32
+    ensures { λ r. ⌜ r ≡ a - b ⌝ }
+{
+    if b < a { a - b } else { 0 }
+}
+
 // 2 to the power of a - b, and 1 where b is above a.
 fn power(a: u32, b: u32) -> u32
     requires { ⌜ a < 32 ⌝ }
     ensures { λ r. ⌜ r ≡ 2 ^ (a - b) ⌝ }
 {
-    if b < a { 1 << (a - b) } else { 1 }
+    1 << above(a, b)
 }
 
 // The ticks from one step to the next.

@@ -4,7 +4,7 @@ use mathlib.Core.Bool.{Bool, true, false, cond, not, _&&_}
 use mathlib.Core.List.{List}
 use Prim.Native.Nat.{ℕ, _+_, _-_, _*_, _/_, _%_, _≤_, _<_}
 use native.Mathlib.Omega.{arith}
-use borrow.Author.Tests.{not-true, not-false}
+use borrow.Author.Tests.{not-true, not-false, lt-ltb, le-ltb, lt-leb, eq-eqb, ne-eqb}
 use lib.ListN.{getD, set}
 use lib.Seq.{set-getD}
 use Rattle.fixed.specs.Bits.{bit}
@@ -16,6 +16,7 @@ use Rattle.noise.specs.Noise.{writtenOf}
 use Rattle.soundram.specs.declared.ByteAddress.{ByteAddress}
 use Rattle.soundram.specs.Address.{addressOf, Sized}
 use Rattle.registers.specs.Map.{registerAt, ofVoice}
+use Rattle.registers.specs.Offsets.{between}
 use Rattle.voice.specs.declared.Voice.{Voice}
 use Rattle.voice.specs.Voice.{withEnvelope, fresh, keyedOn, goesOff}
 use Rattle.voice.proofs.Keys.{keyed-off, keyed-still, stopped}
@@ -139,15 +140,30 @@ module _ (s : State) (old value : ℕ) {n m : Noise} {c : Control} (ys : List �
   control-stops t k = holds-as k (rw (g .state, ec, h .state) (control-off s old value written t refl))
 
 -- which effect is taken
+
+module _ (offset : ℕ) where
+  a-repeat : offset < 0x180 → offset % 16 ≡ 0xE → isRepeat offset ≡ true
+  a-repeat h e = rw (lt-ltb offset 0x180 h, eq-eqb (offset % 16) 0xE e)
+
+  no-repeat : offset < 0x180 → (offset % 16 ≡ 0xE → ⊥) → isRepeat offset ≡ false
+  no-repeat h e = rw (lt-ltb offset 0x180 h, ne-eqb (offset % 16) 0xE e)
+
+  past-voices : 0x180 ≤ offset → isRepeat offset ≡ false
+  past-voices h = rw (le-ltb offset 0x180 h)
+
+  -- below an interval
+  not-between : (low high : ℕ) → offset < low → between low high offset ≡ false
+  not-between low high h = rw (lt-leb low offset h)
+
 module _ (s : State) (offset old value : ℕ) {ys : List ℕ} where
-  pub takes-repeat : isRepeat offset ≡ true → Holds ys (setRepeat s (offset / 16) value) → Holds ys (effectOf s offset old value)
-  takes-repeat a h = holds-as h (effect-repeat s offset old value a refl)
+  pub takes-repeat : offset < 0x180 → offset % 16 ≡ 0xE → Holds ys (setRepeat s (offset / 16) value) → Holds ys (effectOf s offset old value)
+  takes-repeat a b h = holds-as h (effect-repeat s offset old value (a-repeat offset a b) refl)
 
-  pub takes-on : isRepeat offset ≡ false → isKeyOn offset ≡ true → Holds ys (keyOn s (offset - 0x188) value) → Holds ys (effectOf s offset old value)
-  takes-on a b h = holds-as h (effect-on s offset old value a b refl)
+  pub takes-on : 0x180 ≤ offset → isKeyOn offset ≡ true → Holds ys (keyOn s (offset - 0x188) value) → Holds ys (effectOf s offset old value)
+  takes-on a b h = holds-as h (effect-on s offset old value (past-voices offset a) b refl)
 
-  pub takes-off : isRepeat offset ≡ false → isKeyOn offset ≡ false → isKeyOff offset ≡ true → Holds ys (keyOff s (offset - 0x18C) value) → Holds ys (effectOf s offset old value)
-  takes-off a b c h = holds-as h (effect-off s offset old value a b c refl)
+  pub takes-off : 0x180 ≤ offset → isKeyOn offset ≡ false → isKeyOff offset ≡ true → Holds ys (keyOff s (offset - 0x18C) value) → Holds ys (effectOf s offset old value)
+  takes-off a b c h = holds-as h (effect-off s offset old value (past-voices offset a) b c refl)
 
   -- z is the size
   pub takes-base : {z : ℕ} {a : ByteAddress} → offset ≡ 0x1A2 → z ≡ s .choices .size → a ≡ addressOf z (record { 0 = value }) → Holds ys (withPlace s a) → Holds ys (effectOf s offset old value)
@@ -159,9 +175,16 @@ module _ (s : State) (offset old value : ℕ) {ys : List ℕ} where
   pub takes-control : offset ≡ 0x1AA → Holds ys (setControl s old value) → Holds ys (effectOf s offset old value)
   takes-control e h = holds-as h (effect-control s offset old value e refl)
 
-pub takes-none : (xs : List ℕ) (offset old value : ℕ) → Formed xs → isRepeat offset ≡ false → isKeyOn offset ≡ false → isKeyOff offset ≡ false → (offset ≡ 0x1A2 → ⊥) → (offset ≡ 0x1A6 → ⊥)
-    → (offset ≡ 0x1AA → ⊥) → Holds xs (effectOf (stateOf xs) offset old value)
-takes-none xs offset old value f a b c d e g = holds-as (self-holds xs f) (effect-none (stateOf xs) offset old value a b c d e g)
+module _ (xs : List ℕ) (offset old value : ℕ) (f : Formed xs) where
+  pub takes-none : 0x180 ≤ offset → isKeyOn offset ≡ false → isKeyOff offset ≡ false → (offset ≡ 0x1A2 → ⊥) → (offset ≡ 0x1A6 → ⊥) → (offset ≡ 0x1AA → ⊥)
+      → Holds xs (effectOf (stateOf xs) offset old value)
+  takes-none a b c d e g = holds-as (self-holds xs f) (effect-none (stateOf xs) offset old value (past-voices offset a) b c d e g)
+
+  -- most registers of a voice
+  pub takes-voice : offset < 0x180 → (offset % 16 ≡ 0xE → ⊥) → Holds xs (effectOf (stateOf xs) offset old value)
+  takes-voice a b =
+      holds-as (self-holds xs f)
+      (effect-none (stateOf xs) offset old value (no-repeat offset a b) (not-between offset 0x188 0x18A (omega arith)) (not-between offset 0x18C 0x18E (omega arith)) (λ e. omega arith) (λ e. omega arith) (λ e. omega arith))
 
 -- an address that a register gives is even
 pub even-address : {size : ℕ} (value : ℕ) {z : ℕ} {a : ByteAddress} → Sized size → z ≡ size → a ≡ addressOf z (record { 0 = value }) → a .0 % 2 ≡ 0

@@ -156,7 +156,10 @@ fn effect(state: &mut [u16], offset: u32, old: u16, value: u16)
     requires { ⌜ Formed (now state) × Sized (stateOf (now state) .choices .size) ⌝ }
     ensures { λ _. ⌜ Holds (now (state .exit)) (effectOf (stateOf (now (state .entry))) offset old value) ⌝ }
 {
-    if (offset < 0x180) & (offset % 16 == 0xE) {
+    if offset < 0x180 {
+        if offset % 16 != 0xE {
+            return;
+        }
         set_repeat(state, (offset / 16) as usize, value);
         return;
     }
