@@ -98,7 +98,7 @@ module _ (xs : List ℕ) where
       ≡ (isRow (rowOf xs n) && voiceOk ((last + 1) * 8) (voiceIn xs n))
   unfolding isRow voiceOk allOf waitOk place voiceFrom
   one-voice last n h =
-      let here : Envelope = record { phase = phaseOf (getD xs (260 + n) 0); level = getD xs (284 + n) 0; wait = wide (getD xs (308 + n) 0) (getD xs (332 + n) 0) } in
+      let here : Envelope = record { phase = phaseOf (getD xs (260 + n) 0); level = getD xs (284 + n) 0; wait = wide (getD xs (308 + n * 2 + 0) 0) (getD xs (308 + n * 2 + 1) 0) } in
       rw (
         voice-at xs n h,
         row-at xs n 0 (omega arith),
