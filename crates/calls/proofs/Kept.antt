@@ -8,6 +8,7 @@ use borrow.Author.Tests.{eqb-true, eq-eqb, ne-eqb, not-true, not-false}
 use lib.Dec.{eqb}
 use lib.ListN.{length}
 use Rattle.fixed.proofs.Bools.{and-first, and-rest}
+use Rattle.soundram.specs.Address.{Lent}
 use Rattle.soundram.specs.Calls.{Doing, still, Outcome, outcome}
 use Rattle.chip.specs.declared.State.{State}
 use Rattle.chip.specs.State.{stateOk}
@@ -16,8 +17,8 @@ use Rattle.layout.proofs.Laws.{form-tagged, formed}
 use Rattle.layout.proofs.Encoding.{holds-buffer}
 
 use Rattle.spu.specs.Step.{Call, Answer, Test, test, firstOf, outside, lentTests, testsOf, numberOf, refusedOf, acceptedOf, stepOf, chip, outcomeOf, Leaves}
-use Rattle.spu.proofs.Range.{tests-good}
-use Rattle.spu.proofs.Lent.{leaves-still}
+use Rattle.spu.proofs.Range.{tests-good, passed-first, passed-rest}
+use Rattle.spu.proofs.Lent.{leaves-still, lent-all}
 use Rattle.spu.proofs.Numbers as numbers
 use Rattle.spu.proofs.Numbers.{here, later, lent-1, lent-2, lent-0}
 use Rattle.calls.specs.Kept.{testedOf, numberIn, keptIn, keptNot, keptOf, Keeps}
@@ -29,7 +30,7 @@ module _ (xs : List ℕ) where
   unfolding isState
   state-formed e = and-first (isWellFormed xs) _ e
 
-  state-ok : isState xs ≡ true → stateOk (stateOf xs) ≡ true
+  pub state-ok : isState xs ≡ true → stateOk (stateOf xs) ≡ true
   unfolding isState
   state-ok e = and-rest (isWellFormed xs) _ e
 
@@ -147,3 +148,22 @@ module _ (xs : List ℕ) {t a : Bool} (e : t ≡ isTagged xs) (f : not t ≡ fal
 
   pub state-is-0 : not a ≡ false → 0 ≡ testedOf xs (outside (isState xs) ∷ [])
   state-is-0 n = tagged-yes xs _ e f (later _ 2 _ (rw (← ea) n) numbers.none)
+
+-- ---- what an accepted call that is lent RAM and marks may rely on
+
+module _ (xs ram marks : List ℕ) (ts : List Test) {n : ℕ} (e : n ≡ testedOf xs (lentTests (isState xs) (stateOf xs) (length ram) (length marks) ts)) (z : n ≡ 0) where
+  lent-first : firstOf (lentTests (isState xs) (stateOf xs) (length ram) (length marks) ts) ≡ 0
+  lent-first = by (isTagged xs) (sym e ∙ z)
+    where
+      by : (b : Bool) → cond b (firstOf (lentTests (isState xs) (stateOf xs) (length ram) (length marks) ts)) 2 ≡ 0 → firstOf (lentTests (isState xs) (stateOf xs) (length ram) (length marks) ts) ≡ 0
+      by true q = q
+      by false q = absurd (no q)
+        where
+          no : _≡_ {A = ℕ} 2 0 → ⊥
+          no q = omega arith
+
+  pub lent-state : isState xs ≡ true
+  lent-state = not-false _ (passed-first _ 1 _ (passed-rest _ 0 _ lent-first))
+
+  pub lent-lent : Lent (stateOf xs .choices .size) ram marks
+  lent-lent = lent-all (isState xs) (stateOf xs) (state-ok xs) ts ram marks (sym lent-first) refl

@@ -1,51 +1,53 @@
+use Rattle.layout.proofs.Ranges.{state-formed, state-in-range}
+use Rattle.spu.specs.Step.{runTests}
+use Rattle.calls.proofs.Kept.{lent-state, lent-lent}
+use lib.ListN.{length}
+use Rattle.calls_ticks.proofs.Runs.{run-no, run-yes}
 use borrow.Author.Needs.{needs}
 use Rattle.calls_ticks.proofs.tenonwhisk_run.Statement.{statement}
 use Rattle.calls_ticks.proofs.tenonwhisk_run.Tie as tie
-use Rattle.calls_ticks.proofs.tenonwhisk_run.Reads as reads
-use Rattle.calls_ticks.proofs.tenonwhisk_run.Lts as lts
-use Rattle.calls_ticks.proofs.refused.Reads as refused-reads
-use Rattle.calls_ticks.proofs.run_number.Reads as run-number-reads
-use Rattle.tick_runs.proofs.run.Reads as run-reads
 
--- src/lib.rt:128:9
 run-number-requires : tie.Need-run-number-requires
 run-number-requires c κs = search needs
 
--- src/lib.rt:130:9
 refused-requires : tie.Need-refused-requires
 refused-requires c κs = search needs
 
--- src/lib.rt:130:9
 same-length : tie.Need-same-length
 same-length c = search needs
 
--- src/lib.rt:130:9
 returns : tie.Need-returns
-returns c = ?
+returns c = let z = c .before .before .before .before .before .before .before in rw (c .refused .ensures) (run-no _ (z .args .ram .now) (z .args .marks .now) (z .args .cd .now) (z .args .out .now) (c .before .before .run-number .ensures) (c .before .if1 .taken))
 
--- src/lib.rt:133:9
 run-requires : tie.Need-run-requires
-run-requires c κs = ?
+run-requires c κs =
+  let n = c .before .before .before .before .before in
+  let y = n .before .before .before .before .before in
+  let e = n .run-number .ensures in
+  let z = c .before .before .before .before .if1 .left in
+  let t = runTests (length (y .args .cd .now)) (length (y .args .out .now)) in
+  let s = lent-state (y .args .state .now) (y .args .ram .now) (y .args .marks .now) t e z in
+  (state-formed _ s, state-in-range _ s, lent-lent (y .args .state .now) (y .args .ram .now) (y .args .marks .now) t e z)
 
--- src/lib.rt:118:1
 same-length-2 : tie.Need-same-length-2
 same-length-2 c = search needs
 
--- src/lib.rt:118:1
 same-length-3 : tie.Need-same-length-3
 same-length-3 c = search needs
 
--- src/lib.rt:118:1
 same-length-4 : tie.Need-same-length-4
 same-length-4 c = search needs
 
--- src/lib.rt:118:1
 same-length-5 : tie.Need-same-length-5
 same-length-5 c = search needs
 
--- src/lib.rt:118:1
 returns-2 : tie.Need-returns-2
-returns-2 c = ?
+returns-2 c =
+  let r = c .before .before .before .before .before .before .before in
+  let a = r .before .before .before .before .before in
+  let n = a .before in
+  let z = n .before .before .before .before .before in
+  run-yes _ (z .args .ram .now) (z .args .marks .now) (z .args .cd .now) (z .args .out .now) (n .run-number .ensures) (a .if1 .left) (r .run .ensures) (record { each = λ i. c .before .before .before .before .before .slice-known4 .given i .fits })
 
 pub tenonwhisk-run-spec : {M : Type 1} → statement M
 tenonwhisk-run-spec =

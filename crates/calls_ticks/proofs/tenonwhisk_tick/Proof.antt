@@ -1,58 +1,59 @@
+use mathlib.Core.Path.{refl}
+use mathlib.Core.List.{[]}
+use mir.Facts.{toZ-ofZ}
+use Rattle.layout.proofs.Ranges.{state-formed, state-in-range}
+use Rattle.calls.proofs.Kept.{lent-state, lent-lent}
+use Rattle.calls_ticks.proofs.Runs.{tick-no, tick-yes}
 use borrow.Author.Needs.{needs}
 use Rattle.calls_ticks.proofs.tenonwhisk_tick.Statement.{statement}
 use Rattle.calls_ticks.proofs.tenonwhisk_tick.Tie as tie
-use Rattle.calls_ticks.proofs.tenonwhisk_tick.Reads as reads
-use Rattle.calls_ticks.proofs.tenonwhisk_tick.Lts as lts
-use Rattle.calls.proofs.lent_number.Reads as lent-number-reads
-use Rattle.tick_runs.proofs.run.Reads as run-reads
 
--- src/lib.rt:48:9
 lent-number-requires : tie.Need-lent-number-requires
 lent-number-requires c κs = search needs
 
--- src/lib.rt:50:9
 same-length : tie.Need-same-length
 same-length c = search needs
 
--- src/lib.rt:50:9
 returns : tie.Need-returns
-returns c = ?
+returns c = let z = c .before .before .before .before .before .before in tick-no _ _ _ (z .args .ram .now) (z .args .marks .now) (c .before .lent-number .ensures) (c .if1 .taken)
 
--- src/lib.rt:60:47
 slice-aggregate-run : tie.Need-slice-aggregate-run
 slice-aggregate-run c = search needs
 
--- src/lib.rt:60:52
 slice-aggregate-run-2 : tie.Need-slice-aggregate-run-2
 slice-aggregate-run-2 c = search needs
 
--- src/lib.rt:60:9
 run-requires : tie.Need-run-requires
-run-requires c κs = ?
+run-requires c κs =
+  let n = c .before .before .before .before .before .before in
+  let y = n .before .before .before .before .before in
+  let e = n .lent-number .ensures in
+  let z = c .before .before .before .before .before .if1 .left in
+  let s = lent-state (y .args .state .now) (y .args .ram .now) (y .args .marks .now) [] e z in
+  (state-formed _ s, state-in-range _ s, lent-lent (y .args .state .now) (y .args .ram .now) (y .args .marks .now) [] e z)
 
--- src/lib.rt:65:15
 array-copy-out-t28 : tie.Need-array-copy-out-t28
 array-copy-out-t28 c = search needs
 
--- src/lib.rt:66:16
 array-copy-out-t31 : tie.Need-array-copy-out-t31
 array-copy-out-t31 c = search needs
 
--- src/lib.rt:38:1
 same-length-2 : tie.Need-same-length-2
 same-length-2 c = search needs
 
--- src/lib.rt:38:1
 same-length-3 : tie.Need-same-length-3
 same-length-3 c = search needs
 
--- src/lib.rt:38:1
 same-length-4 : tie.Need-same-length-4
 same-length-4 c = search needs
 
--- src/lib.rt:38:1
 returns-2 : tie.Need-returns-2
-returns-2 c = ?
+returns-2 c =
+  let r = c .before .before .before .before .before .before .before .before .before .before .before in
+  let a = r .before .before .before .before .before .before in
+  let n = a .before in
+  let z = n .before .before .before .before .before in
+  tick-yes _ _ _ (z .args .ram .now) (z .args .marks .now) (n .lent-number .ensures) _ _ (a .if1 .left) (r .run .ensures) (record { each = λ i. c .before .before .before .before .before .before .before .before .before .slice-known4 .given i .fits }) (toZ-ofZ (z .fits .left)) (toZ-ofZ (z .fits .right)) refl (search (needs, c .before .t28 .given)) (search (needs, c .t31 .given))
 
 pub tenonwhisk-tick-spec : {M : Type 1} → statement M
 tenonwhisk-tick-spec =

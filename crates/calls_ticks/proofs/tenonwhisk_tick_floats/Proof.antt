@@ -3,8 +3,8 @@ use Rattle.calls_ticks.proofs.tenonwhisk_tick_floats.Statement.{stateme
 use Rattle.calls_ticks.proofs.tenonwhisk_tick_floats.Tie as tie
 use Rattle.calls_ticks.proofs.tenonwhisk_tick_floats.Reads as reads
 use Rattle.calls_ticks.proofs.tenonwhisk_tick_floats.Lts as lts
-use Rattle.stereo.proofs.to_floats.Reads as to-floats-reads
 use Rattle.calls_ticks.proofs.tenonwhisk_tick.Reads as tenonwhisk-tick-reads
+use Rattle.stereo.proofs.to_floats.Reads as to-floats-reads
 
 -- src/lib.rt:81:9
 tenonwhisk-tick-requires : tie.Need-tenonwhisk-tick-requires
