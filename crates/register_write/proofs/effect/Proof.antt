@@ -3,16 +3,6 @@ use Rattle.register_write.proofs.Work.{even-address, takes-voice, takes
 use borrow.Author.Needs.{needs}
 use Rattle.register_write.proofs.effect.Statement.{statement}
 use Rattle.register_write.proofs.effect.Tie as tie
-use Rattle.register_write.proofs.effect.Reads as reads
-use Rattle.register_write.proofs.effect.Lts as lts
-use Rattle.layout.proofs.put_place.Reads as put-place-reads
-use Rattle.layout.proofs.put_transfer.Reads as put-transfer-reads
-use Rattle.layout.proofs.size.Reads as size-reads
-use Rattle.register_write.proofs.key_off.Reads as key-off-reads
-use Rattle.register_write.proofs.key_on.Reads as key-on-reads
-use Rattle.register_write.proofs.set_control.Reads as set-control-reads
-use Rattle.register_write.proofs.set_repeat.Reads as set-repeat-reads
-use Rattle.soundram.proofs.address_of.Reads as address-of-reads
 
 returns : tie.Need-returns
 returns c = search takes-voice

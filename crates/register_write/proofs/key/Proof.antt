@@ -2,10 +2,6 @@ use Rattle.register_write.proofs.Work.{key-none, key-on, key-off}
 use borrow.Author.Needs.{needs}
 use Rattle.register_write.proofs.key.Statement.{statement}
 use Rattle.register_write.proofs.key.Tie as tie
-use Rattle.register_write.proofs.key.Reads as reads
-use Rattle.register_write.proofs.key.Lts as lts
-use Rattle.register_write.proofs.release.Reads as release-reads
-use Rattle.register_write.proofs.start.Reads as start-reads
 
 returns : tie.Need-returns
 returns c = search key-none

@@ -2,9 +2,6 @@ use Rattle.register_write.proofs.Work.{keyed-off-in}
 use borrow.Author.Needs.{needs}
 use Rattle.register_write.proofs.key_off.Statement.{statement}
 use Rattle.register_write.proofs.key_off.Tie as tie
-use Rattle.register_write.proofs.key_off.Reads as reads
-use Rattle.register_write.proofs.key_off.Lts as lts
-use Rattle.register_write.proofs.on_keys.Reads as on-keys-reads
 
 on-keys-requires : tie.Need-on-keys-requires
 on-keys-requires c κs = search needs

@@ -2,10 +2,6 @@ use Rattle.register_write.proofs.Work.{keyed-none, keyed-on}
 use borrow.Author.Needs.{needs}
 use Rattle.register_write.proofs.key_on.Statement.{statement}
 use Rattle.register_write.proofs.key_on.Tie as tie
-use Rattle.register_write.proofs.key_on.Reads as reads
-use Rattle.register_write.proofs.key_on.Lts as lts
-use Rattle.layout.proofs.register.Reads as register-reads
-use Rattle.register_write.proofs.on_keys.Reads as on-keys-reads
 
 register-requires : tie.Need-register-requires
 register-requires c κs = search needs

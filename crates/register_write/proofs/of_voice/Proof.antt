@@ -2,9 +2,6 @@ use Rattle.register_write.proofs.Work.{of-voice-is}
 use borrow.Author.Needs.{needs}
 use Rattle.register_write.proofs.of_voice.Statement.{statement}
 use Rattle.register_write.proofs.of_voice.Tie as tie
-use Rattle.register_write.proofs.of_voice.Reads as reads
-use Rattle.register_write.proofs.of_voice.Lts as lts
-use Rattle.layout.proofs.register.Reads as register-reads
 
 mul-register : tie.Need-mul-register
 mul-register c = search needs

@@ -8,9 +8,6 @@ use Rattle.register_write.specs.Keys.{keyBits}
 use Rattle.register_write.proofs.Work.{still-sized, bits-none-in, bits-more-in, holds-end}
 use Rattle.register_write.proofs.on_bits.Statement.{statement}
 use Rattle.register_write.proofs.on_bits.Tie as tie
-use Rattle.register_write.proofs.on_bits.Reads as reads
-use Rattle.register_write.proofs.on_bits.Lts as lts
-use Rattle.register_write.proofs.key.Reads as key-reads
 
 abbrev Inv-loop : tie.InvT-loop
 Inv-loop state₀ on value first count k₀ state k = (k ≤ count) × Holds state (keyBits on (stateOf state₀) value first k)

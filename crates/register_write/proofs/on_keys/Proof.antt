@@ -2,9 +2,6 @@ use Rattle.register_write.proofs.Work.{pair-first, pair-second}
 use borrow.Author.Needs.{needs}
 use Rattle.register_write.proofs.on_keys.Statement.{statement}
 use Rattle.register_write.proofs.on_keys.Tie as tie
-use Rattle.register_write.proofs.on_keys.Reads as reads
-use Rattle.register_write.proofs.on_keys.Lts as lts
-use Rattle.register_write.proofs.on_bits.Reads as on-bits-reads
 
 on-bits-requires : tie.Need-on-bits-requires
 on-bits-requires c κs = search needs

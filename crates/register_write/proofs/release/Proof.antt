@@ -2,13 +2,6 @@ use Rattle.register_write.proofs.Work.{not-released, released}
 use borrow.Author.Needs.{needs}
 use Rattle.register_write.proofs.release.Statement.{statement}
 use Rattle.register_write.proofs.release.Tie as tie
-use Rattle.register_write.proofs.release.Reads as reads
-use Rattle.register_write.proofs.release.Lts as lts
-use Rattle.envelope_tick.proofs.enter.Reads as enter-reads
-use Rattle.layout.proofs.envelope.Reads as envelope-reads
-use Rattle.layout.proofs.put_envelope.Reads as put-envelope-reads
-use Rattle.register_write.proofs.of_voice.Reads as of-voice-reads
-use Rattle.voice.proofs.goes_off.Reads as goes-off-reads
 
 envelope-requires : tie.Need-envelope-requires
 envelope-requires c κs = search needs

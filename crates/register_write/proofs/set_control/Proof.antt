@@ -2,14 +2,6 @@ use Rattle.register_write.proofs.Work.{control-stays, control-stops}
 use borrow.Author.Needs.{needs}
 use Rattle.register_write.proofs.set_control.Statement.{statement}
 use Rattle.register_write.proofs.set_control.Tie as tie
-use Rattle.register_write.proofs.set_control.Reads as reads
-use Rattle.register_write.proofs.set_control.Lts as lts
-use Rattle.layout.proofs.control.Reads as control-reads
-use Rattle.layout.proofs.noise.Reads as noise-reads
-use Rattle.layout.proofs.put_control.Reads as put-control-reads
-use Rattle.layout.proofs.put_noise.Reads as put-noise-reads
-use Rattle.noise.proofs.write.Reads as write-reads
-use Rattle.register_write.proofs.stop_all.Reads as stop-all-reads
 
 noise-requires : tie.Need-noise-requires
 noise-requires c κs = search needs

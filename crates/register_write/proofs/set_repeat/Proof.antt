@@ -2,9 +2,6 @@ use Rattle.register_write.proofs.Work.{repeat-put}
 use borrow.Author.Needs.{needs}
 use Rattle.register_write.proofs.set_repeat.Statement.{statement}
 use Rattle.register_write.proofs.set_repeat.Tie as tie
-use Rattle.register_write.proofs.set_repeat.Reads as reads
-use Rattle.register_write.proofs.set_repeat.Lts as lts
-use Rattle.layout.proofs.put_repeat.Reads as put-repeat-reads
 
 put-repeat-requires : tie.Need-put-repeat-requires
 put-repeat-requires c κs = search needs

@@ -2,12 +2,6 @@ use Rattle.register_write.proofs.Work.{start-in, started}
 use borrow.Author.Needs.{needs}
 use Rattle.register_write.proofs.start.Statement.{statement}
 use Rattle.register_write.proofs.start.Tie as tie
-use Rattle.register_write.proofs.start.Reads as reads
-use Rattle.register_write.proofs.start.Lts as lts
-use Rattle.layout.proofs.put_voice.Reads as put-voice-reads
-use Rattle.layout.proofs.size.Reads as size-reads
-use Rattle.register_write.proofs.of_voice.Reads as of-voice-reads
-use Rattle.voice.proofs.key_on.Reads as key-on-reads
 
 size-requires : tie.Need-size-requires
 size-requires c κs = search needs

@@ -2,10 +2,6 @@ use Rattle.register_write.proofs.Work.{stopped-voice}
 use borrow.Author.Needs.{needs}
 use Rattle.register_write.proofs.stop.Statement.{statement}
 use Rattle.register_write.proofs.stop.Tie as tie
-use Rattle.register_write.proofs.stop.Reads as reads
-use Rattle.register_write.proofs.stop.Lts as lts
-use Rattle.layout.proofs.put_envelope.Reads as put-envelope-reads
-use Rattle.voice.proofs.Voice.fresh.Reads as fresh-reads
 
 fresh-requires : tie.Need-fresh-requires
 fresh-requires c κs = search needs

@@ -7,9 +7,6 @@ use Rattle.register_write.specs.Keys.{stopVoices}
 use Rattle.register_write.proofs.Work.{stop-none-in, stop-more-in, holds-end}
 use Rattle.register_write.proofs.stop_all.Statement.{statement}
 use Rattle.register_write.proofs.stop_all.Tie as tie
-use Rattle.register_write.proofs.stop_all.Reads as reads
-use Rattle.register_write.proofs.stop_all.Lts as lts
-use Rattle.register_write.proofs.stop.Reads as stop-reads
 
 abbrev Inv-loop : tie.InvT-loop
 Inv-loop state₀ n₀ state n = (n ≤ 24) × Holds state (stopVoices (stateOf state₀) n)

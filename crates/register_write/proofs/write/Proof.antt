@@ -5,11 +5,6 @@ use Rattle.register_write.proofs.Work.{still-sized, written-in}
 use borrow.Author.Needs.{needs}
 use Rattle.register_write.proofs.write.Statement.{statement}
 use Rattle.register_write.proofs.write.Tie as tie
-use Rattle.register_write.proofs.write.Reads as reads
-use Rattle.register_write.proofs.write.Lts as lts
-use Rattle.layout.proofs.put_register.Reads as put-register-reads
-use Rattle.layout.proofs.register.Reads as register-reads
-use Rattle.register_write.proofs.effect.Reads as effect-reads
 
 register-requires : tie.Need-register-requires
 register-requires c κs = search (listed-below, needs)
