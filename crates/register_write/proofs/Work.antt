@@ -1,6 +1,6 @@
 -- Register writes on the buffer, as the code makes them. Assumes nothing.
 use mathlib.Core.Path.{_≡_, refl, ap, _∙_}
-use mathlib.Core.Bool.{Bool, true, false, cond, not, _&&_}
+use mathlib.Core.Bool.{Bool, true, false, not, _&&_}
 use mathlib.Core.List.{List}
 use Prim.Native.Nat.{ℕ, _+_, _-_, _*_, _/_, _%_, _≤_, _<_}
 use native.Mathlib.Omega.{arith}
@@ -26,7 +26,7 @@ use Rattle.chip.specs.declared.Control.{Control}
 use Rattle.chip.specs.declared.State.{State}
 use Rattle.chip.specs.State.{withRegs, withVoices, withControl, withTransfer}
 use Rattle.chip.proofs.Ranges.{placed-even}
-use Rattle.ports.specs.Registers.{onBits, onKeys, keyed, keyOn, keyOff, repeated, setRepeat, setControl, isRepeat, isKeyOn, isKeyOff, effectOf, writeOf}
+use Rattle.ports.specs.Registers.{keyed, keyOn, keyOff, repeated, setRepeat, setControl, isRepeat, isKeyOn, isKeyOff, effectOf, writeOf}
 use Rattle.ports.proofs.Parts.{stop-none, stop-more, bits-none, bits-more, keys-first, keys-second, repeat-as, on-as, on-none, off-as, control-on, control-off, effect-repeat, effect-on, effect-off, effect-base, effect-transfer, effect-control, effect-none, write-as}
 use Rattle.layout.specs.Layout.{stateOf, voiceIn, Formed, Holds}
 use Rattle.layout.specs.Stores.{withVoice, withRepeat, withNoise, withPlace}
@@ -78,12 +78,9 @@ module _ (xs : List ℕ) (n : ℕ) (f : Formed xs) where
   pub key-none : (set on : Bool) → not set ≡ true → Holds xs (keyIf set on (stateOf xs) n)
   key-none set on t = rw (not-true set t) (holds-as (self-holds xs f) (stays (stateOf xs) n))
 
-module _ (s : State) (n : ℕ) {ys : List ℕ} where
-  pub key-on : (set on : Bool) → not set ≡ false → on ≡ true → Holds ys (keyVoice true s n) → Holds ys (keyIf set on s n)
-  key-on set on t e h = rw (not-false set t, e) h
-
-  pub key-off : (set on : Bool) → not set ≡ false → on ≡ false → Holds ys (keyVoice false s n) → Holds ys (keyIf set on s n)
-  key-off set on t e h = rw (not-false set t, e) h
+-- b says which of the two keys the call was of
+pub key-set : (s : State) (n : ℕ) (set on b : Bool) {ys : List ℕ} → not set ≡ false → on ≡ b → Holds ys (keyVoice b s n) → Holds ys (keyIf set on s n)
+key-set s n set on b t e h = rw (not-false set t, e) h
 
 -- ---- loops over the voices
 
