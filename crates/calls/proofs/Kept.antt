@@ -15,7 +15,6 @@ use Rattle.chip.specs.State.{stateOk}
 use Rattle.layout.specs.Layout.{stateOf, bufferOf, isTagged, isWellFormed, isState, Formed, Holds, Halfwords}
 use Rattle.layout.proofs.Laws.{form-tagged, formed}
 use Rattle.layout.proofs.Encoding.{holds-buffer}
-
 use Rattle.spu.specs.Step.{Call, Answer, Test, test, firstOf, outside, lentTests, testsOf, numberOf, refusedOf, acceptedOf, stepOf, chip, outcomeOf, Leaves}
 use Rattle.spu.proofs.Range.{tests-good, passed-first, passed-rest}
 use Rattle.spu.proofs.Lent.{leaves-still, lent-all}

@@ -133,10 +133,7 @@ pub extern "C" fn tenonwhisk_read(state: &[u16], offset: u32) -> Reading
 {
     let number = read_number(state, offset);
     if number != 0 {
-        return Reading {
-            number,
-            value: 0,
-        };
+        return Reading { number, value: 0 };
     }
     let value = register_read::read(state, offset);
     Reading { number, value }

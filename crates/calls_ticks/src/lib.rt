@@ -138,3 +138,45 @@ pub extern "C" fn tenonwhisk_run(
         doubt: r.doubt,
     }
 }
+
+// Each sample as a float.
+fn to_floats(out: &[i16], floats: &mut [f32])
+    requires { ⌜ length (now floats) ≡ length (now out) ⌝ }
+    ensures { λ _. ⌜ now (floats .exit) ≡ map floatOf (now (out .entry)) ⌝ }
+{
+    let mut i = 0;
+    while i < out.len() {
+        floats[i] = stereo::to_float(out[i]);
+        i += 1;
+    }
+}
+
+// A run, and its samples as floats beside.
+#[no_mangle]
+pub extern "C" fn tenonwhisk_run_floats(
+    state: &mut [u16],
+    ram: &mut [u8],
+    marks: &mut [u8],
+    cd: &[i16],
+    out: &mut [i16],
+    floats: &mut [f32],
+) -> Ran
+    ensures { λ r. ⌜ Keeps (runFloats (now (cd .entry)) (now (out .entry)) (now (floats .entry))) (now (state .entry)) (now (ram .entry)) (now (marks .entry)) (ranFloats (r .number) (r .count) (r .irq) (r .doubt) (now (out .exit)) (now (floats .exit))) (reports (r .irq) (r .count)) (reports (r .doubt) (r .count)) (now (state .exit)) (now (ram .exit)) (now (marks .exit)) ⌝ }
+{
+    let number = run_number(state, ram.len(), marks.len(), cd.len(), out.len());
+    if number != 0 {
+        return refused(number);
+    }
+    if floats.len() != out.len() {
+        return refused(25);
+    }
+    let count = out.len() / 2;
+    let r = tick_runs::run(state, ram, marks, cd, out);
+    to_floats(out, floats);
+    Ran {
+        number,
+        count,
+        irq: r.irq,
+        doubt: r.doubt,
+    }
+}

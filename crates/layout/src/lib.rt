@@ -38,7 +38,6 @@ pub const LEVELS: usize = 284;
 
 pub const WAITS: usize = 308;
 
-
 pub const COUNTERS: usize = 356;
 
 pub const INDICES: usize = 380;

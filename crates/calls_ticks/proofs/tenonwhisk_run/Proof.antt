@@ -21,13 +21,13 @@ returns c = let z = c .before .before .before .before .before .before .before in
 
 run-requires : tie.Need-run-requires
 run-requires c κs =
-  let n = c .before .before .before .before .before in
-  let y = n .before .before .before .before .before in
-  let e = n .run-number .ensures in
-  let z = c .before .before .before .before .if1 .left in
-  let t = runTests (length (y .args .cd .now)) (length (y .args .out .now)) in
-  let s = lent-state (y .args .state .now) (y .args .ram .now) (y .args .marks .now) t e z in
-  (state-formed _ s, state-in-range _ s, lent-lent (y .args .state .now) (y .args .ram .now) (y .args .marks .now) t e z)
+    let n = c .before .before .before .before .before in
+    let y = n .before .before .before .before .before in
+    let e = n .run-number .ensures in
+    let z = c .before .before .before .before .if1 .left in
+    let t = runTests (length (y .args .cd .now)) (length (y .args .out .now)) in
+    let s = lent-state (y .args .state .now) (y .args .ram .now) (y .args .marks .now) t e z in
+    (state-formed _ s, state-in-range _ s, lent-lent (y .args .state .now) (y .args .ram .now) (y .args .marks .now) t e z)
 
 same-length-2 : tie.Need-same-length-2
 same-length-2 c = search needs
@@ -43,11 +43,11 @@ same-length-5 c = search needs
 
 returns-2 : tie.Need-returns-2
 returns-2 c =
-  let r = c .before .before .before .before .before .before .before in
-  let a = r .before .before .before .before .before in
-  let n = a .before in
-  let z = n .before .before .before .before .before in
-  run-yes _ (z .args .ram .now) (z .args .marks .now) (z .args .cd .now) (z .args .out .now) (n .run-number .ensures) (a .if1 .left) (r .run .ensures) (record { each = λ i. c .before .before .before .before .before .slice-known4 .given i .fits })
+    let r = c .before .before .before .before .before .before .before in
+    let a = r .before .before .before .before .before in
+    let n = a .before in
+    let z = n .before .before .before .before .before in
+    run-yes _ (z .args .ram .now) (z .args .marks .now) (z .args .cd .now) (z .args .out .now) (n .run-number .ensures) (a .if1 .left) (r .run .ensures) (record { each = λ i. c .before .before .before .before .before .slice-known4 .given i .fits })
 
 pub tenonwhisk-run-spec : {M : Type 1} → statement M
 tenonwhisk-run-spec =

@@ -21,12 +21,12 @@ add-result-2 c = search needs
 
 returns : tie.Need-returns
 returns c =
-  let w = c .before .args .w in
-  let a = and-first (leb 2 w) (leb w 3) (c .if1 .taken) in
-  let b = and-rest (leb 2 w) (leb w 3) (c .if1 .taken) in
-  let h = leb-true 2 w a in
-  let k = leb-true w 3 b in
-  (wait-place _ _ a b, omega arith)
+    let w = c .before .args .w in
+    let a = and-first (leb 2 w) (leb w 3) (c .if1 .taken) in
+    let b = and-rest (leb 2 w) (leb w 3) (c .if1 .taken) in
+    let h = leb-true 2 w a in
+    let k = leb-true w 3 b in
+    (wait-place _ _ a b, omega arith)
 
 mul-result-2 : tie.Need-mul-result-2
 mul-result-2 c = search needs
