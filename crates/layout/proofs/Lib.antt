@@ -4,3 +4,4 @@ pub mod Put
 pub mod Tail
 pub mod Encoding
 pub mod Ranges
+pub mod Made

@@ -3,7 +3,7 @@ use mathlib.Core.Path.{_≡_}
 use mathlib.Core.List.{List}
 use Prim.Native.Nat.{ℕ, zero, suc, _+_, _-_, _<_}
 use lib.IntN.{ℤ, pos}
-use lib.ListN.{length, getD, set}
+use lib.ListN.{length, getD, set, replicate}
 use Rattle.fixed.specs.Range.{In}
 use Rattle.fixed.specs.Signed.{bitsOf}
 use Rattle.noise.specs.declared.Noise.{Noise}
@@ -13,7 +13,7 @@ use Rattle.voice.specs.Voice.{withEnvelope}
 use Rattle.chip.specs.declared.Control.{Control}
 use Rattle.chip.specs.declared.Reverb.{Reverb}
 use Rattle.chip.specs.declared.State.{State}
-use Rattle.chip.specs.State.{withVoices, withReverb}
+use Rattle.chip.specs.State.{withRegs, withVoices, withReverb, freshOf}
 use Rattle.layout.specs.Layout.{place, tailAt}
 
 -- k words of voice n from the word first on, each f of its number, put one after another
@@ -75,3 +75,10 @@ withRepeat v value =
       playing = v .playing;
       ended = v .ended;
     }
+
+unfoldable pub zerosOf : ℕ → List ℕ
+zerosOf n = replicate n 0
+
+-- a fresh state, its registers and its noise all zero
+abbrev pub blankOf : ℕ → State
+blankOf size = withNoise (withRegs (freshOf size) (replicate 256 0)) (record { level = 0; timer = 0 })

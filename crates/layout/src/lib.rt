@@ -2,13 +2,13 @@
 ghost use mathlib.Core.Path.{_≡_};
 ghost use Prim.Native.Nat.{_+_, _*_, _/_, _%_, _≤_, _<_};
 ghost use lib.IntN.{pos};
-ghost use lib.ListN.{length, getD, set};
+ghost use lib.ListN.{length, getD, set, replicate};
 ghost use Rattle.fixed.specs.Signed.{signed};
 ghost use Rattle.registers.specs.Map.{registerAt};
-ghost use Rattle.chip.specs.State.{withRegs, withControl, withTransfer, watchOf, watchedOf};
+ghost use Rattle.chip.specs.State.{withRegs, withVoices, withControl, withTransfer, freshOf, watchOf, watchedOf};
 ghost use Rattle.layout.specs.Layout.{stateLength, place as placeOf, Formed, stateOf, voiceIn, Holds, wide as wideOf, lowHalf, highHalf, phaseOf, phaseNumber, listOf};
-ghost use Rattle.voice.specs.Voice.{withEnvelope, withPosition};
-ghost use Rattle.layout.specs.Stores.{putWords, sampleWord, Samples, putTail, withVoice, withWait, withRepeat, withNoise, withPlace, withRest};
+ghost use Rattle.voice.specs.Voice.{withEnvelope, withPosition, fresh as freshVoice};
+ghost use Rattle.layout.specs.Stores.{putWords, sampleWord, Samples, putTail, withVoice, withWait, withRepeat, withNoise, withPlace, withRest, zerosOf, blankOf};
 use chip::Control;
 use chip::Held;
 use chip::Reverb;
@@ -567,4 +567,54 @@ pub fn put_rest(
         high(tick),
     ];
     put_tail(state, &all);
+}
+
+// ---- make
+
+fn clear(state: &mut [u16])
+    requires { ⌜ length (now state) ≡ stateLength ⌝ }
+    ensures { λ _. ⌜ now (state .exit) ≡ zerosOf stateLength ⌝ }
+{
+    for i in 0..LENGTH {
+        state[i] = 0;
+    }
+}
+
+// A fresh state but for its register, its timer and its voices.
+fn begin(state: &mut [u16], size: u32)
+    requires { ⌜ length (now state) ≡ stateLength ⌝ }
+    ensures { λ _. ⌜ Holds (now (state .exit)) (withVoices (blankOf size) (stateOf (now (state .exit)) .voices)) ⌝ }
+{
+    clear(state);
+    state[0] = TAG;
+    state[1] = VERSION;
+    state[2] = low(size);
+    state[3] = high(size);
+}
+
+// Every voice becomes a fresh one.
+fn put_fresh(state: &mut [u16])
+    requires { ⌜ Formed (now state) ⌝ }
+    ensures { λ _. ⌜ Holds (now (state .exit)) (withVoices (stateOf (now (state .entry))) (replicate 24 freshVoice)) ⌝ }
+{
+    for n in 0..24usize {
+        put_voice(state, n, Voice::fresh());
+    }
+}
+
+// The state becomes a fresh one, for a sound RAM of size bytes, whatever stood in the buffer.
+pub fn fresh(state: &mut [u16], size: u32)
+    requires { ⌜ length (now state) ≡ stateLength ⌝ }
+    ensures { λ _. ⌜ Holds (now (state .exit)) (freshOf size) ⌝ }
+{
+    begin(state, size);
+    put_register(state, 0xD6, 4);
+    put_noise(
+        state,
+        Noise {
+            level: 0,
+            timer: 0x20000,
+        },
+    );
+    put_fresh(state);
 }
