@@ -8,18 +8,21 @@ use borrow.Author.Tests.{eqb-true, eq-eqb, ne-eqb, not-true, not-false}
 use lib.Dec.{eqb}
 use lib.ListN.{length}
 use Rattle.fixed.proofs.Bools.{and-first, and-rest}
+use Rattle.soundram.specs.declared.Watch.{Watch}
 use Rattle.soundram.specs.Address.{Lent}
-use Rattle.soundram.specs.Calls.{Doing, still, Outcome, outcome}
+use Rattle.soundram.specs.Program.{Prog, memOf, Does}
+use Rattle.soundram.specs.Calls.{Reply, Doing, still, works, Outcome, outcome}
 use Rattle.chip.specs.declared.State.{State}
-use Rattle.chip.specs.State.{stateOk}
+use Rattle.chip.specs.State.{stateOk, watchOf, watchedOf}
+use Rattle.chip.specs.Range.{InRange}
 use Rattle.layout.specs.Layout.{stateOf, bufferOf, isTagged, isWellFormed, isState, Formed, Holds, Halfwords}
-use Rattle.layout.proofs.Laws.{form-tagged, formed}
+use Rattle.layout.proofs.Laws.{form-tagged, formed, registers-count, voices-count}
 use Rattle.layout.proofs.Encoding.{holds-buffer}
 use Rattle.spu.specs.Step.{Call, Answer, Test, test, firstOf, outside, lentTests, testsOf, numberOf, refusedOf, acceptedOf, stepOf, chip, outcomeOf, Leaves}
-use Rattle.spu.proofs.Range.{tests-good, passed-first, passed-rest}
-use Rattle.spu.proofs.Lent.{leaves-still, lent-all}
+use Rattle.spu.proofs.Range.{tests-good, passed-first, passed-rest, stays-in-range}
+use Rattle.spu.proofs.Lent.{lent-all, leaves-still, leaves-works}
 use Rattle.spu.proofs.Numbers as numbers
-use Rattle.spu.proofs.Numbers.{here, later, lent-1, lent-2, lent-0}
+use Rattle.spu.proofs.Numbers.{here, later, lent-refused, lent-passed, lent-1, lent-2, lent-0}
 use Rattle.calls.specs.Kept.{testedOf, numberIn, keptIn, keptNot, keptOf, Keeps}
 
 -- ---- the number of a call on a buffer, and of the call on the state that stands in it
@@ -95,6 +98,20 @@ module _ (c : Call) (xs r m : List ℕ) {n : ℕ} (e : n ≡ numberIn c xs (leng
         holds = λ _. record { formed = h .formed; state = h .state ∙ l .state };
       }
 
+  -- p is what the call does, w the watch after it
+  pub kept-works : {p : Prog (Reply Answer State)} {a : Answer} {t : State} {w : Watch} {ys r′ m′ : List ℕ} → n ≡ 0 → acceptedOf c (stateOf xs) ≡ works p
+      → Does p (memOf r m (watchOf (stateOf xs))) (record { answer = a; state = t }) (memOf r′ m′ w) → Holds ys (watchedOf t w) → Halfwords ys
+      → Keeps c xs r m a (w .latch && not (watchOf (stateOf xs) .latch)) (w .doubt && not (watchOf (stateOf xs) .doubt)) ys r′ m′
+  kept-works z f d h w = kept-leaves z (leaves-works c (stateOf xs) r m (accepted-number c xs (length r) (length m) e z) refl f d) h w
+
+  -- and leaves a state in range
+  pub works-in-range : {p : Prog (Reply Answer State)} {a : Answer} {t : State} {w : Watch} {r′ m′ : List ℕ} → n ≡ 0 → acceptedOf c (stateOf xs) ≡ works p
+      → Does p (memOf r m (watchOf (stateOf xs))) (record { answer = a; state = t }) (memOf r′ m′ w) → InRange (watchedOf t w)
+  unfolding outcomeOf
+  works-in-range z f d =
+      let q = accepted-number c xs (length r) (length m) e z in
+      rw (leaves-works c (stateOf xs) r m q refl f d .state) (stays-in-range c (stateOf xs) r m (record { regs = registers-count xs; voices = voices-count xs }) (sym q))
+
   -- a call that touches no memory
   pub kept-still : {a : Answer} {t : State} {ys : List ℕ} → n ≡ 0 → acceptedOf c (stateOf xs) ≡ still a t → Holds ys t → Halfwords ys → Keeps c xs r m a false false ys r m
   kept-still z f h w = kept-leaves z (leaves-still c (stateOf xs) r m (accepted-number c xs (length r) (length m) e z) refl f) h w
@@ -125,6 +142,38 @@ tested-on xs ss ts {n} {m} e z f = by (isTagged xs) e
         no : _≡_ {A = ℕ} 0 2 → ⊥
         no q = omega arith
 
+-- ---- the tests of a call's own, after those of what is lent and of the state, which n is the code's number of
+
+module _ (xs : List ℕ) (ram marks : ℕ) (ts : List Test) {n : ℕ} (e : n ≡ testedOf xs (lentTests (isState xs) (stateOf xs) ram marks [])) where
+  pub lent-more : (n ≡ 0 → ⊥) → n ≡ testedOf xs (lentTests (isState xs) (stateOf xs) ram marks ts)
+  lent-more z = tested-more xs _ _ e z (λ q. lent-refused (isState xs) (stateOf xs) ram marks ts q z)
+
+  pub lent-on : {m : ℕ} → n ≡ 0 → m ≡ firstOf ts → m ≡ testedOf xs (lentTests (isState xs) (stateOf xs) ram marks ts)
+  lent-on z f = tested-on xs _ _ e z (λ q. lent-passed (isState xs) (stateOf xs) ram marks ts q z f)
+
+-- ---- what an accepted call that is lent RAM and marks may rely on
+
+pub tested-all : (xs : List ℕ) (ts : List Test) {n : ℕ} → n ≡ testedOf xs ts → n ≡ 0 → n ≡ firstOf ts
+tested-all xs ts {n} e z = by (isTagged xs) e
+  where
+    by : (b : Bool) → n ≡ cond b (firstOf ts) 2 → n ≡ firstOf ts
+    by true q = q
+    by false q = absurd (no (sym z ∙ q))
+      where
+        no : _≡_ {A = ℕ} 0 2 → ⊥
+        no q = omega arith
+
+-- of their lengths
+pub lent-good : (xs : List ℕ) (ram marks : ℕ) (ts : List Test) {n : ℕ} → n ≡ testedOf xs (lentTests (isState xs) (stateOf xs) ram marks ts) → n ≡ 0 → isState xs ≡ true
+lent-good xs ram marks ts e z = not-false _ (passed-first _ 1 _ (passed-rest _ 0 _ (sym (tested-all xs _ e z) ∙ z)))
+
+module _ (xs ram marks : List ℕ) (ts : List Test) {n : ℕ} (e : n ≡ testedOf xs (lentTests (isState xs) (stateOf xs) (length ram) (length marks) ts)) (z : n ≡ 0) where
+  pub lent-state : isState xs ≡ true
+  lent-state = lent-good xs (length ram) (length marks) ts e z
+
+  pub lent-lent : Lent (stateOf xs .choices .size) ram marks
+  lent-lent = lent-all (isState xs) (stateOf xs) (state-ok xs) ts ram marks (tested-all xs _ e z) z
+
 -- ---- the code's tests, t that of the tag, z the L in the buffer, a that of the whole state
 
 pub tagged-is : (xs : List ℕ) {t : Bool} → t ≡ isTagged xs → not t ≡ false → isTagged xs ≡ true
@@ -147,22 +196,3 @@ module _ (xs : List ℕ) {t a : Bool} (e : t ≡ isTagged xs) (f : not t ≡ fal
 
   pub state-is-0 : not a ≡ false → 0 ≡ testedOf xs (outside (isState xs) ∷ [])
   state-is-0 n = tagged-yes xs _ e f (later _ 2 _ (rw (← ea) n) numbers.none)
-
--- ---- what an accepted call that is lent RAM and marks may rely on
-
-module _ (xs ram marks : List ℕ) (ts : List Test) {n : ℕ} (e : n ≡ testedOf xs (lentTests (isState xs) (stateOf xs) (length ram) (length marks) ts)) (z : n ≡ 0) where
-  lent-first : firstOf (lentTests (isState xs) (stateOf xs) (length ram) (length marks) ts) ≡ 0
-  lent-first = by (isTagged xs) (sym e ∙ z)
-    where
-      by : (b : Bool) → cond b (firstOf (lentTests (isState xs) (stateOf xs) (length ram) (length marks) ts)) 2 ≡ 0 → firstOf (lentTests (isState xs) (stateOf xs) (length ram) (length marks) ts) ≡ 0
-      by true q = q
-      by false q = absurd (no q)
-        where
-          no : _≡_ {A = ℕ} 2 0 → ⊥
-          no q = omega arith
-
-  pub lent-state : isState xs ≡ true
-  lent-state = not-false _ (passed-first _ 1 _ (passed-rest _ 0 _ lent-first))
-
-  pub lent-lent : Lent (stateOf xs .choices .size) ram marks
-  lent-lent = lent-all (isState xs) (stateOf xs) (state-ok xs) ts ram marks (sym lent-first) refl

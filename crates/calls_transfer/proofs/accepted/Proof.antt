@@ -1,0 +1,33 @@
+use borrow.Author.Needs.{needs}
+use mathlib.Core.Path.{refl}
+use Rattle.calls_transfer.proofs.Transfers.{put-both}
+use Rattle.calls_transfer.proofs.accepted.Statement.{statement}
+use Rattle.calls_transfer.proofs.accepted.Tie as tie
+use Rattle.calls_transfer.proofs.accepted.Reads as reads
+use Rattle.calls_transfer.proofs.accepted.Lts as lts
+use Rattle.layout.proofs.put_transfer.Reads as put-transfer-reads
+use Rattle.layout.proofs.put_watch.Reads as put-watch-reads
+
+-- src/lib.rt:98:5
+put-transfer-requires : tie.Need-put-transfer-requires
+put-transfer-requires c κs = search needs
+
+-- src/lib.rt:99:5
+put-watch-requires : tie.Need-put-watch-requires
+put-watch-requires c κs = search needs
+
+-- src/lib.rt:94:1
+same-length : tie.Need-same-length
+same-length c = search needs
+
+-- src/lib.rt:94:1
+returns : tie.Need-returns
+returns c =
+    let a = c .before .before .before .before in
+    let b = a .before .before in
+    let d = b .before .before .before .before in
+    let s = d .before .before .before .args in
+    (refl, put-both _ (s .m .address) (s .m .watch) (d .put-transfer .ensures) (b .put-watch .ensures), record { each = λ i. a .slice-known3 .given i .fits })
+
+pub accepted-spec : {M : Type 1} → statement M
+accepted-spec = tie.close (tie.spec put-transfer-requires put-watch-requires same-length returns)
