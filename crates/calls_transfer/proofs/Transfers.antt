@@ -12,12 +12,11 @@ use mir.Val.{Fits}
 use Rattle.fixed.proofs.Bools.{or-rest}
 use Rattle.soundram.specs.declared.ByteAddress.{ByteAddress}
 use Rattle.soundram.specs.declared.Watch.{Watch}
-use Rattle.soundram.specs.Address.{Lent}
 use Rattle.soundram.specs.Program.{memOf, Does}
 use Rattle.soundram.proofs.Programs.{does-done, does-bind}
 use Rattle.chip.specs.declared.State.{State}
 use Rattle.chip.specs.State.{withTransfer, watchOf, watchedOf}
-use Rattle.chip.specs.Range.{TransferIn}
+use Rattle.chip.proofs.Tests.{sized}
 use Rattle.transfer.specs.Transfer.{inwardOf, outwardOf}
 use Rattle.layout.specs.Layout.{stateOf, isState, Formed, Holds, Halfwords}
 use Rattle.layout.proofs.Ranges.{state-formed, state-in-range}
@@ -25,7 +24,7 @@ use Rattle.spu.specs.Step.{transferIn, transferOut, moved, movedOut, Test, test
 use Rattle.spu.proofs.Range.{passed-first, passed-rest}
 use Rattle.spu.proofs.Numbers.{here, later, none}
 use Rattle.calls.specs.Kept.{testedOf, numberIn, Keeps}
-use Rattle.calls.proofs.Kept.{kept-refused, kept-works, works-in-range, tested-all, lent-state, lent-lent}
+use Rattle.calls.proofs.Kept.{kept-refused, kept-works, works-in-range, tested-all, lent-good}
 use Rattle.calls_transfer.specs.declared.Moved.{Moved}
 
 -- ---- a transfer's own tests: b is the code's test of the count
@@ -46,31 +45,25 @@ move-by w k e f = rw e at f
 
 -- ---- what an accepted transfer may rely on
 
-module _ (xs r m : List ℕ) (w : Bool) (k : ℕ) {n : ℕ} (e : n ≡ testedOf xs (lentTests (isState xs) (stateOf xs) (length r) (length m) (moveTests w k))) (z : n ≡ 0) where
-  -- "0 or more than 32 halfwords" is refused
-  pub move-fits : Fits w32 k
-  move-fits =
-      let h = ltb-false 32 k (or-rest (eqb k 0) (ltb 32 k) (passed-first _ 6 _ (passed-rest _ 5 _ (passed-rest _ 1 _ (passed-rest _ 0 _ (sym (tested-all xs _ e z) ∙ z)))))) in
-      record { fits = omega arith }
+-- of k halfwords
+pub move-fits : (xs : List ℕ) (ram marks : ℕ) (w : Bool) (k : ℕ) {n : ℕ} → n ≡ testedOf xs (lentTests (isState xs) (stateOf xs) ram marks (moveTests w k)) → n ≡ 0 → Fits w32 k
+move-fits xs ram marks w k e z =
+    let h = ltb-false 32 k (or-rest (eqb k 0) (ltb 32 k) (passed-first _ 6 _ (passed-rest _ 5 _ (passed-rest _ 1 _ (passed-rest _ 0 _ (sym (tested-all xs _ e z) ∙ z)))))) in
+    record { fits = omega arith }
 
-  pub move-formed : Formed xs
-  move-formed = state-formed xs (lent-state xs r m _ e z)
+pub record Ready (xs : List ℕ) : Type 0 where
+  pub formed : Formed xs
+  pub some : 0 < stateOf xs .choices .size
+  pub start : stateOf xs .transfer .0 < stateOf xs .choices .size
+  pub below : stateOf xs .transfer .0 < 0x80000
 
-  pub move-in : TransferIn (stateOf xs .choices .size) (stateOf xs .transfer)
-  move-in = state-in-range xs (lent-state xs r m _ e z) .transfer
-
-  pub move-some : 0 < stateOf xs .choices .size
-  move-some = let h = move-in .below in omega arith
-
-  pub move-below : stateOf xs .transfer .0 < 0x80000
-  move-below = let h = move-in .below in let l = lent-lent xs r m _ e z .sized .most in omega arith
-
-  -- size and a are what the code reads
-  pub move-lent : {size : ℕ} → size ≡ stateOf xs .choices .size → Lent size r m
-  move-lent es = rw es (lent-lent xs r m _ e z)
-
-  pub move-start : {size : ℕ} {a : ByteAddress} → size ≡ stateOf xs .choices .size → a ≡ stateOf xs .transfer → a .0 < size
-  move-start es ea = rw (es, ea) (move-in .below)
+pub ready : (xs : List ℕ) (ram marks : ℕ) (ts : List Test) {n : ℕ} → n ≡ testedOf xs (lentTests (isState xs) (stateOf xs) ram marks ts) → n ≡ 0 → Ready xs
+ready xs ram marks ts e z =
+    let g = lent-good xs ram marks ts e z in
+    let i = state-in-range xs g in
+    let a = i .transfer .below in
+    let l = sized _ (i .size) .most in
+    record { formed = state-formed xs g; some = omega arith; start = a; below = omega arith }
 
 -- ---- the address, and then what was watched, put in place
 

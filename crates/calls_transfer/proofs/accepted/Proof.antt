@@ -3,24 +3,16 @@ use mathlib.Core.Path.{refl}
 use Rattle.calls_transfer.proofs.Transfers.{put-both}
 use Rattle.calls_transfer.proofs.accepted.Statement.{statement}
 use Rattle.calls_transfer.proofs.accepted.Tie as tie
-use Rattle.calls_transfer.proofs.accepted.Reads as reads
-use Rattle.calls_transfer.proofs.accepted.Lts as lts
-use Rattle.layout.proofs.put_transfer.Reads as put-transfer-reads
-use Rattle.layout.proofs.put_watch.Reads as put-watch-reads
 
--- src/lib.rt:98:5
 put-transfer-requires : tie.Need-put-transfer-requires
 put-transfer-requires c κs = search needs
 
--- src/lib.rt:99:5
 put-watch-requires : tie.Need-put-watch-requires
 put-watch-requires c κs = search needs
 
--- src/lib.rt:94:1
 same-length : tie.Need-same-length
 same-length c = search needs
 
--- src/lib.rt:94:1
 returns : tie.Need-returns
 returns c =
     let a = c .before .before .before .before in
