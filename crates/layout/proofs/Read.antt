@@ -1,21 +1,24 @@
 -- What the code reads out of a buffer, as the state that stands in it has it. Assumes nothing.
 use mathlib.Core.Path.{_≡_, refl, sym, ap, _∙_}
+use mathlib.Core.Bool.{_&&_}
 use mathlib.Core.List.{List, [], _∷_, _++_}
-use Prim.Native.Nat.{ℕ, suc, _+_, _*_, _-_, _≤_, _<_}
+use Prim.Native.Nat.{ℕ, zero, suc, _+_, _*_, _-_, _≤_, _<_}
 use native.Mathlib.Omega.{arith}
-use borrow.Author.Tests.{leb-true}
-use lib.Dec.{eqb}
+use borrow.Author.Tests.{leb-true, le-leb, lt-leb, ne-eqb}
+use lib.Dec.{eqb, leb}
 use lib.IntN.{ℤ, pos}
 use lib.ListN.{length, getD, take, set}
 use lib.Seq.{take-all, take-suc-set}
 use Rattle.fixed.specs.Signed.{signed}
 use Rattle.envelope.specs.declared.Phase.{Phase}
+use Rattle.envelope.specs.Adsr.{active}
 use Rattle.envelope.specs.declared.Envelope.{Envelope}
 use Rattle.soundram.specs.declared.ByteAddress.{ByteAddress}
 use Rattle.voice.specs.declared.Source.{Source}
 use Rattle.voice.specs.declared.Position.{Position}
 use Rattle.voice.specs.declared.Playing.{Playing}
 use Rattle.voice.specs.declared.Voice.{Voice}
+use Rattle.voice.specs.Voice.{isIdle}
 use Rattle.voices.specs.Voices.{pastEnd}
 use Rattle.layout.specs.Layout.{listOf, region, registersAt, place, rowOf, partsOf, wide, phaseOf, voiceFrom, stateFrom, stateOf, isRow, Formed}
 use Rattle.layout.proofs.Laws.{list-at, list-same, region-at, place-high, row-at, voice-at, form-row, first-of, skip}
@@ -45,6 +48,30 @@ module _ (xs : List ℕ) where
   unfolding stateOf stateFrom partsOf region
   registers-are e = e
 
+-- ---- phases
+
+idle-of : (p : ℕ) → eqb p 0 ≡ isIdle (phaseOf p)
+unfolding phaseOf
+idle-of zero = refl
+idle-of (suc zero) = refl
+idle-of (suc (suc zero)) = refl
+idle-of (suc (suc (suc zero))) = refl
+idle-of (suc (suc (suc (suc zero)))) = refl
+idle-of (suc (suc (suc (suc (suc n))))) =
+    let p : ℕ = suc (suc (suc (suc (suc n)))) in
+    rw (ne-eqb p 0 (λ q. omega arith), ne-eqb p 1 (λ q. omega arith), ne-eqb p 2 (λ q. omega arith), ne-eqb p 3 (λ q. omega arith), ne-eqb p 4 (λ q. omega arith))
+
+active-of : (p : ℕ) → (leb 1 p && leb p 4) ≡ active (phaseOf p)
+unfolding phaseOf
+active-of zero = refl
+active-of (suc zero) = refl
+active-of (suc (suc zero)) = refl
+active-of (suc (suc (suc zero))) = refl
+active-of (suc (suc (suc (suc zero)))) = refl
+active-of (suc (suc (suc (suc (suc n))))) =
+    let p : ℕ = suc (suc (suc (suc (suc n)))) in
+    rw (ne-eqb p 0 (λ q. omega arith), ne-eqb p 1 (λ q. omega arith), ne-eqb p 2 (λ q. omega arith), ne-eqb p 3 (λ q. omega arith), ne-eqb p 4 (λ q. omega arith), le-leb 1 p (omega arith), lt-leb p 4 (omega arith))
+
 -- ---- voice n
 
 module _ (xs : List ℕ) (n : ℕ) (h : n < 24) where
@@ -54,6 +81,12 @@ module _ (xs : List ℕ) (n : ℕ) (h : n < 24) where
   pub phase-is : {p : Phase} → p ≡ phaseOf (getD xs (260 + n) 0) → p ≡ here .envelope .phase
   unfolding voiceFrom place
   phase-is e = rw (e, voice-at xs n h, row-at xs n 0 (omega arith))
+
+  pub idle-is : eqb (getD xs (260 + n) 0) 0 ≡ isIdle (here .envelope .phase)
+  idle-is = idle-of (getD xs (260 + n) 0) ∙ ap isIdle (phase-is refl)
+
+  pub active-is : (leb 1 (getD xs (260 + n) 0) && leb (getD xs (260 + n) 0) 4) ≡ active (here .envelope .phase)
+  active-is = active-of (getD xs (260 + n) 0) ∙ ap active (phase-is refl)
 
   pub wait-is : {w : ℕ} → w ≡ wide (getD xs (308 + n * 2) 0) (getD xs (308 + n * 2 + 1) 0) → w ≡ here .envelope .wait
   unfolding voiceFrom place

@@ -7,7 +7,8 @@ ghost use Rattle.fixed.specs.Signed.{signed};
 ghost use Rattle.registers.specs.Map.{registerAt};
 ghost use Rattle.chip.specs.State.{withRegs, withVoices, withControl, withTransfer, freshOf, watchOf, watchedOf};
 ghost use Rattle.layout.specs.Layout.{stateLength, place as placeOf, Formed, stateOf, voiceIn, Holds, wide as wideOf, lowHalf, highHalf, phaseOf, phaseNumber, listOf};
-ghost use Rattle.voice.specs.Voice.{withEnvelope, withPosition, fresh as freshVoice};
+ghost use Rattle.envelope.specs.Adsr.{active};
+ghost use Rattle.voice.specs.Voice.{isIdle, withEnvelope, withPosition, fresh as freshVoice};
 ghost use Rattle.layout.specs.Stores.{putWords, sampleWord, Samples, putTail, withVoice, withWait, withRepeat, withNoise, withPlace, withRest, zerosOf, blankOf};
 use chip::Control;
 use chip::Held;
@@ -169,6 +170,22 @@ pub fn phase(state: &[u16], n: usize) -> Phase
     ensures { λ r. ⌜ r ≡ voiceIn (now (state .entry)) n .envelope .phase ⌝ }
 {
     phase_of(state[PHASES + n])
+}
+
+// Whether voice n is Idle, and whether its phase has steps.
+
+pub fn is_idle(state: &[u16], n: usize) -> bool
+    requires { ⌜ (n < 24) × (length (now state) ≡ stateLength) ⌝ }
+    ensures { λ r. ⌜ r ≡ isIdle (voiceIn (now (state .entry)) n .envelope .phase) ⌝ }
+{
+    state[PHASES + n] == 0
+}
+
+pub fn is_active(state: &[u16], n: usize) -> bool
+    requires { ⌜ (n < 24) × (length (now state) ≡ stateLength) ⌝ }
+    ensures { λ r. ⌜ r ≡ active (voiceIn (now (state .entry)) n .envelope .phase) ⌝ }
+{
+    (1 <= state[PHASES + n]) & (state[PHASES + n] <= 4)
 }
 
 pub fn wait(state: &[u16], n: usize) -> u32
