@@ -23,19 +23,19 @@ size-requires : tie.Need-size-requires
 size-requires c κs = ready _ _ _ _ (c .before .before .in-number .ensures) (c .before .if1 .left) .formed .size
 
 transfer-requires : tie.Need-transfer-requires
-transfer-requires c κs = 
+transfer-requires c κs =
     let a = c .before .before .before in
     let q = ready _ _ _ _ (a .before .in-number .ensures) (a .if1 .left) in
     (q .formed .size, q .below)
 
 watch-requires : tie.Need-watch-requires
-watch-requires c κs = 
+watch-requires c κs =
     let a = c .before .before .before .before .before in
     let q = ready _ _ _ _ (a .before .in-number .ensures) (a .if1 .left) in
     (q .formed .size, q .some)
 
 inward-requires : tie.Need-inward-requires
-inward-requires c κs = 
+inward-requires c κs =
     let t = c .before .before .before .before in
     let z = t .before .before in
     let a = z .before .before in
@@ -43,7 +43,7 @@ inward-requires c κs =
     rw (z .size .ensures, t .transfer .ensures) (lent-lent _ _ _ _ e (a .if1 .left), ready _ _ _ _ e (a .if1 .left) .start)
 
 accepted-requires : tie.Need-accepted-requires
-accepted-requires c κs = 
+accepted-requires c κs =
     let m = c .before .before .before .before .before in
     let w = m .before .before .before in
     let t = w .before .before in
@@ -62,7 +62,7 @@ same-length-4 : tie.Need-same-length-4
 same-length-4 c = search needs
 
 returns-2 : tie.Need-returns-2
-returns-2 c = 
+returns-2 c =
     let m = c .before .before .before .before .before .before .before .before in
     let w = m .before .before .before in
     let t = w .before .before in
