@@ -1,19 +1,18 @@
 -- The voices of a tick, which change in place. Assumes nothing.
 use mathlib.Core.Path.{_≡_, refl, sym, ap, _∙_}
-use mathlib.Core.Bool.{Bool, true, false, _&&_, _||_, not, false≢true}
+use mathlib.Core.Bool.{Bool, true, false, _&&_, not}
 use mathlib.Core.List.{List}
 use Prim.Native.Nat.{ℕ, _+_, _-_, _%_, _≤_, _<_}
 use native.Mathlib.Omega.{arith}
-use borrow.Author.Tests.{ltb-false}
+use borrow.Author.Tests.{ltb-true}
 use lib.Dec.{ltb}
 use lib.ListN.{length, getD, set, length-set}
 use lib.Seq.{getD-set-same, set-set, set-getD}
 use lib.IntN.{ℤ, pos}
-use Rattle.fixed.proofs.Bools.{or-first, or-rest}
-use Rattle.envelope.specs.declared.Phase.{Phase}
+use Rattle.fixed.proofs.Bools.{and-rest}
 use Rattle.envelope.specs.declared.Envelope.{Envelope}
 use Rattle.envelope.specs.Adsr.{active, tickedOf}
-use Rattle.envelope.proofs.Ticks.{waits-some, waits-ticked}
+use Rattle.envelope.proofs.Ticks.{waits-ticked}
 use Rattle.noise.specs.declared.Noise.{Noise}
 use Rattle.noise.specs.Noise.{tickedOf as noiseOf}
 use Rattle.soundram.specs.declared.Watch.{Watch}
@@ -38,7 +37,7 @@ use Rattle.tick.specs.Run.{beginOf}
 use Rattle.layout.specs.Layout.{stateOf, voiceIn, Formed, Holds}
 use Rattle.layout.specs.Stores.{withVoice, withWait}
 use Rattle.layout.proofs.Laws.{voices-count, self-holds, holds-as, twice}
-use Rattle.tick_runs.specs.Run.{Plays, PlaysOn, PlaysAll}
+use Rattle.tick_runs.specs.Run.{Plays, PlaysAll}
 
 -- ---- one voice
 
@@ -61,50 +60,40 @@ module _ (size : ℕ) (regs : List ℕ) (n : ℕ) (below : ℤ) (level : ℕ) (x
       → Plays size regs n below level xs m x ys m′
   load-plays {w} ev es eb d ea h = record { voice = w; does = rw (ea, ← ev, ← es, ← eb) d; holds = h }
 
-  pub idle-plays : {p : Phase} {i : Bool} (m : Mem) → Formed xs → p ≡ voiceIn xs n .envelope .phase → i ≡ isIdle p → i ≡ true → Plays size regs n below level xs m (pos 0) xs m
-  idle-plays m f ee ei t =
+  pub idle-plays : {i : Bool} (m : Mem) → Formed xs → i ≡ isIdle (voiceIn xs n .envelope .phase) → i ≡ true → Plays size regs n below level xs m (pos 0) xs m
+  idle-plays m f ei t =
       record {
         voice = voiceIn xs n;
-        does = tick-idle _ _ _ _ _ _ (ei ∙ rw ee) m t;
+        does = tick-idle _ _ _ _ _ _ ei m t;
         holds = holds-as (self-holds xs f) (rw (set-getD (stateOf xs .voices) n pastEnd));
       }
 
   -- l says whether the voice has a block, c and t are the counter and the sample that the fast path gives, a is the amplitude
-  pub stays-plays : {b : ℤ} {p : Phase} {u : Envelope} {i l : Bool} {c t : ℕ} {a x : ℤ} {ys zs : List ℕ} (m : Mem) → n < 24 → b ≡ below → p ≡ voiceIn xs n .envelope .phase → i ≡ isIdle p → i ≡ false
-      → l ≡ voiceIn xs n .playing .loaded → (not l || ltb 27 t) ≡ false → c ≡ movementOf (settingsOf regs n) b (voiceIn xs n) .counter → t ≡ targetOf (settingsOf regs n) b (voiceIn xs n)
+  pub stays-plays : {b : ℤ} {u : Envelope} {i l : Bool} {c t : ℕ} {a x : ℤ} {ys zs : List ℕ} (m : Mem) → n < 24 → b ≡ below → i ≡ isIdle (voiceIn xs n .envelope .phase) → i ≡ false
+      → l ≡ voiceIn xs n .playing .loaded → not l ≡ false → t ≤ 27 → c ≡ movementOf (settingsOf regs n) b (voiceIn xs n) .counter → t ≡ targetOf (settingsOf regs n) b (voiceIn xs n)
       → a ≡ amplitudeOf (settingsOf regs n) level (voiceIn xs n) → x ≡ a → u ≡ tickedOf (voiceIn ys n .envelope) (settingsOf regs n .low) (settingsOf regs n .high)
       → Holds ys (withVoice (stateOf xs) n (withPosition (voiceIn xs n) c t)) → Holds zs (withVoice (stateOf ys) n (withEnvelope (voiceIn ys n) u))
       → Plays size regs n below level xs m x zs m
-  stays-plays {u} {l} {c} {t} {ys} {zs} m h eb ee ei en el o ec et ea ex eu hp hq =
+  stays-plays {u} {l} {c} {t} {ys} {zs} m h eb ei en el o k ec et ea ex eu hp hq =
       record {
         voice = withPosition (withEnvelope (voiceIn xs n) u) c t;
         does =
-            rw ex (tick-stays (Reader.Voice n) size (voiceIn xs n) (settingsOf regs n) below level m (ei ∙ rw ee) en (rw (← el) (or-first (not l) _ o)) (rw (← eb) ec) (rw (← eb) et) (ltb-false _ _ (or-rest (not l) _ o)) ea
+            rw ex (tick-stays (Reader.Voice n) size (voiceIn xs n) (settingsOf regs n) below level m ei en (rw (← el) o) (rw (← eb) ec) (rw (← eb) et) k ea
             (eu ∙ rw (voice-put xs ys n _ h hp)));
         holds = record { formed = hq .formed; state = twice (stateOf xs) (stateOf ys) (stateOf zs) n _ _ (hp .state) (hq .state ∙ rw (voice-put xs ys n _ h hp)) };
       }
 
 -- an envelope's step: it waits on, or moves
-module _ (xs : List ℕ) (n : ℕ) (low high : ℕ) {ys : List ℕ} where
-  pub waits-holds : {p : Phase} {w : ℕ} {a : Bool} → p ≡ voiceIn xs n .envelope .phase → w ≡ voiceIn xs n .envelope .wait → a ≡ (active p && ltb 1 w) → a ≡ true
-      → Holds ys (withVoice (stateOf xs) n (withWait (voiceIn xs n) (w - 1))) → Holds ys (withVoice (stateOf xs) n (withEnvelope (voiceIn xs n) (tickedOf (voiceIn xs n .envelope) low high)))
-  waits-holds ep ew ea t h =
-      let a = rw (ep, ew) at ea in
-      holds-as h (rw (ew, ← waits-ticked (voiceIn xs n .envelope) a t low high))
+pub waits-holds : (xs : List ℕ) (n low high : ℕ) {ys : List ℕ} {w : ℕ} {i : Bool} → w ≡ voiceIn xs n .envelope .wait → i ≡ active (voiceIn xs n .envelope .phase) → (i && ltb 1 w) ≡ true
+    → Holds ys (withVoice (stateOf xs) n (withWait (voiceIn xs n) (w - 1))) → Holds ys (withVoice (stateOf xs) n (withEnvelope (voiceIn xs n) (tickedOf (voiceIn xs n .envelope) low high)))
+waits-holds xs n low high ew ei t h = holds-as h (rw (ew, ← waits-ticked (voiceIn xs n .envelope) (rw (ei, ew)) t low high))
 
-pub waits-once : (e : Envelope) {p : Phase} {w : ℕ} {a : Bool} → p ≡ e .phase → w ≡ e .wait → a ≡ (active p && ltb 1 w) → a ≡ true → 1 ≤ w
-waits-once e ep ew ea t = rw ew (waits-some e (rw (ep, ew) at ea) t)
+pub waits-once : (w : ℕ) {i a : Bool} → i ≡ a → (i && ltb 1 w) ≡ true → 1 ≤ w
+waits-once w {i} e t = let h = ltb-true 1 w (and-rest i (ltb 1 w) t) in omega arith
 
 pub steps-holds : (xs : List ℕ) (n : ℕ) {ys : List ℕ} {s z : Settings} {e u : Envelope} → s ≡ z → e ≡ voiceIn xs n .envelope → u ≡ tickedOf e (s .low) (s .high)
     → Holds ys (withVoice (stateOf xs) n (withEnvelope (voiceIn xs n) u)) → Holds ys (withVoice (stateOf xs) n (withEnvelope (voiceIn xs n) (tickedOf (voiceIn xs n .envelope) (z .low) (z .high))))
 steps-holds xs n es ee eu h = holds-as h (rw (eu, ee, es))
-
--- a voice that plays on, or not
-pub on-yes : {regs : List ℕ} {n : ℕ} {below : ℤ} {level : ℕ} {xs ys : List ℕ} {a : ℤ} → ((size : ℕ) (m : Mem) → Plays size regs n below level xs m a ys m) → PlaysOn regs n below level xs true a ys
-on-yes f = record { yes = λ _. f; no = λ e. absurd (false≢true (sym e)) }
-
-pub on-no : {regs : List ℕ} {n : ℕ} {below : ℤ} {level : ℕ} {xs : List ℕ} {a : ℤ} → PlaysOn regs n below level xs false a xs
-on-no = record { yes = λ e. absurd (false≢true e); no = λ _. refl }
 
 -- ---- all voices: n have played, and the buffer holds them
 
@@ -128,14 +117,6 @@ module _ {size : ℕ} {regs : List ℕ} {level : ℕ} {xs : List ℕ} {m : Mem} 
           play = play-more z (p .play) h refl (rw (p .holds .state) at (d .does)) e;
           holds = holds-as (d .holds) (rw (p .holds .state));
         }
-
-    -- one that plays on, with the amplitude below as the code has it
-    pub played-on : {b′ a x : ℤ} {d : Bool} {zs : List ℕ} → Sized size → n < 24 → b′ ≡ b → PlaysOn regs n b′ level ys d a zs → d ≡ true → x ≡ a → Played size regs level xs m (n + 1) zs (set hs n x) x o
-    played-on z h eb d e ex = played-more z h (rw eb at (d .yes e size o)) ex
-
-    -- one that does not is still to play
-    pub played-off : {b′ a : ℤ} {d : Bool} {zs : List ℕ} → PlaysOn regs n b′ level ys d a zs → d ≡ false → Played size regs level xs m n zs hs b o
-    played-off d e = rw (d .no e) p
 
     pub played-all : 24 ≤ n → PlaysAll size regs level xs m hs ys o
     played-all h = record { voices = p .voices; does = play-all (p .play) h; holds = p .holds }

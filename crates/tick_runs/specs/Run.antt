@@ -1,6 +1,5 @@
 -- What a run of ticks promises, and its parts: the voices of one tick, on the buffer. Assumes nothing.
 use mathlib.Core.Path.{_≡_}
-use mathlib.Core.Bool.{Bool, true, false}
 use mathlib.Core.List.{List}
 use Prim.Native.Nat.{ℕ, _/_}
 use lib.ListN.{length}
@@ -22,11 +21,6 @@ pub record Plays (size : ℕ) (regs : List ℕ) (n : ℕ) (below : ℤ) (level :
   pub voice : Voice
   pub does : Does (tickOf (Reader.Voice n) size (settingsOf regs n) below level (voiceIn xs n)) m (record { voice = voice; amplitude = amplitude }) m′
   pub holds : Holds ys (withVoice (stateOf xs) n voice)
-
--- it plays without an access, whatever is lent, or is left as it is, for it has to load a block
-pub record PlaysOn (regs : List ℕ) (n : ℕ) (below : ℤ) (level : ℕ) (xs : List ℕ) (done : Bool) (amplitude : ℤ) (ys : List ℕ) : Type 0 where
-  pub yes : done ≡ true → (size : ℕ) (m : Mem) → Plays size regs n below level xs m amplitude ys m
-  pub no : done ≡ false → ys ≡ xs
 
 -- all 24 do, one after the other
 pub record PlaysAll (size : ℕ) (regs : List ℕ) (level : ℕ) (xs : List ℕ) (m : Mem) (amplitudes : List ℤ) (ys : List ℕ) (m′ : Mem) : Type 0 where

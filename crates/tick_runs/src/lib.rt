@@ -13,8 +13,8 @@ ghost use Rattle.chip.specs.Range.{InRange};
 ghost use Rattle.tick.specs.Run.{joinOf, beginOf};
 ghost use Rattle.layout.specs.Layout.{stateOf, voiceIn, Formed, Holds};
 ghost use Rattle.layout.specs.Stores.{withVoice};
-ghost use Rattle.fast_path.specs.Steady.{steadyOf, Steps};
-ghost use Rattle.tick_runs.specs.Run.{Plays, PlaysOn, PlaysAll, Runs};
+ghost use Rattle.fast_path.specs.Steady.{Steps};
+ghost use Rattle.tick_runs.specs.Run.{Plays, PlaysAll, Runs};
 use chip::Control;
 use soundram::Watch;
 use tick::Going;
@@ -24,12 +24,6 @@ use tick::Rest;
 struct Played {
     amplitude: i16,
     watch: Watch,
-}
-
-// Whether it has played, and what it gave if so.
-struct PlayedOn {
-    done: bool,
-    amplitude: i16,
 }
 
 // The amplitudes of all voices.
@@ -79,9 +73,8 @@ fn step_envelope(regs: &[u16; 256], pmon: u32, non: u32, state: &mut [u16], n: u
     requires { ⌜ (n < 24) × Modulated (now regs) pmon × Flags (now regs) 0x194 non × Formed (now state) ⌝ }
     ensures { λ _. ⌜ Holds (now (state .exit)) (withVoice (stateOf (now (state .entry))) n (withEnvelope (voiceIn (now (state .entry)) n) (tickedOf (voiceIn (now (state .entry)) n .envelope) (settingsOf (now (regs .entry)) n .low) (settingsOf (now (regs .entry)) n .high)))) ⌝ }
 {
-    let phase = layout::phase(state, n);
     let wait = layout::wait(state, n);
-    if envelope_tick::waits(phase, wait) {
+    if layout::is_active(state, n) & (1 < wait) {
         layout::put_wait(state, n, wait - 1);
         return;
     }
@@ -90,44 +83,7 @@ fn step_envelope(regs: &[u16; 256], pmon: u32, non: u32, state: &mut [u16], n: u
     layout::put_envelope(state, n, e);
 }
 
-// Voice n plays its tick if it needs no block: it is Idle, or stays in its block, as most do.
-fn play_on(
-    table: &[i16; 512],
-    regs: &[u16; 256],
-    pmon: u32,
-    non: u32,
-    step: u16,
-    state: &mut [u16],
-    n: usize,
-    below: i16,
-    level: u16,
-) -> PlayedOn
-    requires { ⌜ (now table ≡ factors) × (n < 24) × Modulated (now regs) pmon × Flags (now regs) 0x194 non × (step ≡ steadyOf (settingsOf (now regs) n)) × Formed (now state) × (voiceIn (now state) n .position .counter < 0x1000) × (voiceIn (now state) n .position .index ≤ 27) × (voiceIn (now state) n .envelope .level ≤ 0x7FFF) ⌝ }
-    ensures { λ r. ⌜ PlaysOn (now (regs .entry)) n below level (now (state .entry)) (r .done) (r .amplitude) (now (state .exit)) ⌝ }
-{
-    let phase = layout::phase(state, n);
-    if voice::is_idle(phase) {
-        return PlayedOn {
-            done: true,
-            amplitude: 0,
-        };
-    }
-    let m = fast_path::stay(table, regs, pmon, non, state, n, step, below, level);
-    if !layout::loaded(state, n) | (27 < m.target) {
-        return PlayedOn {
-            done: false,
-            amplitude: 0,
-        };
-    }
-    layout::put_position(state, n, m.counter, m.target as u16);
-    step_envelope(regs, pmon, non, state, n);
-    PlayedOn {
-        done: true,
-        amplitude: m.amplitude,
-    }
-}
-
-// All voices play a tick, one after the other.
+// All voices play a tick, one after the other. Most stay in their block, on the fast path. A voice without a block and one that passes its block's end load one.
 fn play_all(
     table: &[i16; 512],
     regs: &[u16; 256],
@@ -149,31 +105,61 @@ fn play_all(
     let mut below = 0i16;
     let mut n = 0usize;
     while n < 24 {
-        let step = steps[n];
-        let q = play_on(table, regs, pmon, non, step, state, n, below, level);
-        if q.done {
-            below = q.amplitude;
+        if layout::is_idle(state, n) {
+            below = 0;
+            amplitudes[n] = 0;
+            n = n + 1;
+            continue;
+        }
+        if !layout::loaded(state, n) {
+            let p = play_load(
+                table,
+                regs,
+                pmon,
+                non,
+                size,
+                state,
+                n,
+                below,
+                level,
+                ram,
+                marks,
+                watch,
+            );
+            let seen = p.watch;
+            watch = seen;
+            below = p.amplitude;
             amplitudes[n] = below;
             n = n + 1;
             continue;
         }
-        let p = play_load(
-            table,
-            regs,
-            pmon,
-            non,
-            size,
-            state,
-            n,
-            below,
-            level,
-            ram,
-            marks,
-            watch,
-        );
-        let seen = p.watch;
-        watch = seen;
-        below = p.amplitude;
+        let step = steps[n];
+        let m = fast_path::stay(table, regs, pmon, non, state, n, step, below, level);
+        if 27 < m.target {
+            let p = play_load(
+                table,
+                regs,
+                pmon,
+                non,
+                size,
+                state,
+                n,
+                below,
+                level,
+                ram,
+                marks,
+                watch,
+            );
+            let seen = p.watch;
+            watch = seen;
+            below = p.amplitude;
+            amplitudes[n] = below;
+            n = n + 1;
+            continue;
+        }
+        layout::put_position(state, n, m.counter, m.target as u16);
+        step_envelope(regs, pmon, non, state, n);
+        below = m.amplitude;
         amplitudes[n] = below;
         n = n + 1;
     }

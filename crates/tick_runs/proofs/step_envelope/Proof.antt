@@ -1,20 +1,16 @@
-use Rattle.layout.specs.Layout.{voiceIn}
 use Rattle.tick_runs.proofs.Voices.{waits-once, waits-holds, steps-holds}
 use borrow.Author.Needs.{needs}
 use Rattle.tick_runs.proofs.step_envelope.Statement.{statement}
 use Rattle.tick_runs.proofs.step_envelope.Tie as tie
 
-phase-requires : tie.Need-phase-requires
-phase-requires c κs = search needs
-
 wait-requires : tie.Need-wait-requires
 wait-requires c κs = search needs
 
-waits-requires : tie.Need-waits-requires
-waits-requires c κs = search needs
+is-active-requires : tie.Need-is-active-requires
+is-active-requires c κs = search needs
 
 sub-put-wait : tie.Need-sub-put-wait
-sub-put-wait c = let z = c .before .before .before .before .before .before .before .before in waits-once (voiceIn (z .args .state .now) (z .args .n) .envelope) (c .before .before .before .before .before .phase .ensures) (c .before .before .before .wait .ensures) (c .before .before .waits .ensures) (c .before .if1 .taken)
+sub-put-wait c = waits-once _ (c .before .before .is-active .ensures) (c .before .if1 .taken)
 
 put-wait-requires : tie.Need-put-wait-requires
 put-wait-requires c κs = search needs
@@ -23,7 +19,7 @@ same-length : tie.Need-same-length
 same-length c = search needs
 
 returns : tie.Need-returns
-returns c = waits-holds _ _ _ _ (c .before .before .before .before .before .before .before .before .phase .ensures) (c .before .before .before .before .before .before .wait .ensures) (c .before .before .before .before .before .waits .ensures) (c .before .before .before .before .if1 .taken) (c .before .before .put-wait .ensures)
+returns c = waits-holds _ _ _ _ (c .before .before .before .before .before .before .before .wait .ensures) (c .before .before .before .before .before .is-active .ensures) (c .before .before .before .before .if1 .taken) (c .before .before .put-wait .ensures)
 
 settings-by-requires : tie.Need-settings-by-requires
 settings-by-requires c κs = search needs
@@ -47,9 +43,8 @@ pub step-envelope-spec : {M : Type 1} → statement M
 step-envelope-spec =
     tie.close
     (tie.spec
-    phase-requires
     wait-requires
-    waits-requires
+    is-active-requires
     sub-put-wait
     put-wait-requires
     same-length
