@@ -2,19 +2,21 @@
  *
  * Memory. The host lends all of it:
  *
- *   state   TENONWHISK_STATE_BYTES bytes: the whole chip except its sound RAM
+ *   state   TENONWHISK_STATE_HALFWORDS halfwords: the whole chip except its sound RAM
  *   ram     L bytes of sound RAM; L is 65,536 or 524,288, and each state is made for one of the two
  *   marks   L/16 bytes: bit h % 8 of byte h / 8 says that the halfword at address 2h is loaded; zero them to begin with
  *
- * A slice is a pointer and its number of elements, not bytes. The slices of one call must not overlap, except the two
- * banks of a lookup. No pointer may be NULL, not even with length 0. The library checks everything else: wrong lengths,
- * damaged states, banks and sectors, and bad arguments are refused. A refused call returns its number and zero results,
- * and leaves every lent byte as it was. There are two exceptions: for a size other than the two, tenonwhisk_make
- * returns 1 and still writes the state for 65,536; and tenonwhisk_xa_decode hands the histories back.
+ * A slice is a pointer and its number of elements: a state's length counts halfwords, not bytes. The slices of one call
+ * must not overlap, except the two banks of a lookup. Every pointer is aligned for its elements. None may be NULL, not
+ * even with length 0. The library checks everything else: wrong lengths, damaged states, banks and sectors, and bad
+ * arguments are refused. A refused call returns its number and zero results, and leaves all lent memory as it was.
+ * There are two exceptions: for a size other than the two, tenonwhisk_make returns 1 and still writes the state for
+ * 65,536; and tenonwhisk_xa_decode hands the histories back.
  *
- * Saved states. A state is plain bytes: copy it, save it, send it elsewhere, with RAM and marks beside it. Its first
- * four bytes name its layout (docs/STATE.md). A library with another layout refuses it with 2; it never
- * misreads it.
+ * Saved states. Every call works on the state in place, so what the host lends is the state, between any two calls. It
+ * is plain halfwords: copy it, save it, with RAM and marks beside it. Its first two halfwords, the tag, name its layout
+ * (docs/STATE.md). A library with another layout refuses it with 2; it never misreads it. A saved state has the byte
+ * order of its host. A host with the other order reads another tag, so it is refused with 2 there.
  *
  * Threads. The library has no variables of its own: it allocates nothing and keeps nothing between calls. Calls on
  * different memory may run at the same time, on any threads. So may calls on the same memory that only read it.
@@ -41,10 +43,10 @@
 extern "C" {
 #endif
 
-#define TENONWHISK_VERSION "0.6.0"
+#define TENONWHISK_VERSION "0.7.0"
 
-/* The length of a state. */
-#define TENONWHISK_STATE_BYTES 2493
+/* The length of a state, in halfwords. */
+#define TENONWHISK_STATE_HALFWORDS 1284
 
 /* No call uses more stack than this. */
 #define TENONWHISK_STACK_BYTES 40960
@@ -53,11 +55,12 @@ extern "C" {
 
 /* What a call returns: TENONWHISK_DONE, or why it was refused. Where several reasons apply, it returns the lowest
  * number, except that TENONWHISK_UNDOCUMENTED goes before TENONWHISK_NOT_CARRIED, and that the three of XA sectors go
- * the other way: 14, 13, 12. Bytes that are not a state do not name an L, so for them it returns TENONWHISK_STATE. */
+ * the other way: 14, 13, 12. A buffer of another length or with another tag does not name an L, so for it a call
+ * returns TENONWHISK_STATE. */
 enum tenonwhisk_number {
     TENONWHISK_DONE = 0,
     TENONWHISK_MEMORY = 1,        /* RAM or marks do not have the lengths that the state's L asks for; or no such L */
-    TENONWHISK_STATE = 2,         /* not a state: other bytes, another length, or a field out of range */
+    TENONWHISK_STATE = 2,         /* not a state: another length, another tag, or a field out of range */
     TENONWHISK_OFFSET = 3,        /* the register offset is odd or not listed */
     TENONWHISK_READ_ONLY = 4,     /* a write to a register that can only be read */
     TENONWHISK_NOT_CARRIED = 5,   /* the register is listed, but it, or this value of it, is not carried */
@@ -85,7 +88,7 @@ static inline const char *tenonwhisk_words(uint8_t number)
         return "sound RAM or marks do not have the size that the state was made for (RAM 65,536 or 524,288 bytes, "
                "marks a sixteenth)";
     case TENONWHISK_STATE:
-        return "the bytes are not a state, or a field of the state is out of range";
+        return "the halfwords are not a state, or a field of the state is out of range";
     case TENONWHISK_OFFSET:
         return "there is no register at this offset";
     case TENONWHISK_READ_ONLY:
@@ -126,12 +129,12 @@ static inline const char *tenonwhisk_words(uint8_t number)
 /* ---- a state */
 
 /* Writes a fresh state for a sound RAM of size bytes. For a size other than the two, it writes the state for 65,536 and
- * returns 1. For a state_len other than TENONWHISK_STATE_BYTES, it writes nothing and returns 2, or 1 if the size is
- * wrong too. */
-uint8_t tenonwhisk_make(uint32_t size, uint8_t *state, size_t state_len);
+ * returns 1. For a state_len other than TENONWHISK_STATE_HALFWORDS, it writes nothing and returns 2, or 1 if the size
+ * is wrong too. */
+uint8_t tenonwhisk_make(uint32_t size, uint16_t *state, size_t state_len);
 
 /* Resets the state to what tenonwhisk_make wrote. Sound RAM and marks stay. Returns 0 or 2. */
-uint8_t tenonwhisk_reset(uint8_t *state, size_t state_len);
+uint8_t tenonwhisk_reset(uint16_t *state, size_t state_len);
 
 struct tenonwhisk_overview {
     uint8_t number;
@@ -140,8 +143,8 @@ struct tenonwhisk_overview {
     uint32_t tick; /* ticks since the state was made or reset, modulo 2^32 */
 };
 
-/* Looks at a state, which it only reads. Numbers: 0 if the bytes are a good state, 2 if not. */
-struct tenonwhisk_overview tenonwhisk_status(const uint8_t *state, size_t state_len);
+/* Looks at a state, which it only reads. Numbers: 0 if the halfwords are a good state, 2 if not. */
+struct tenonwhisk_overview tenonwhisk_status(const uint16_t *state, size_t state_len);
 
 /* ---- registers, by their offset from 1F801C00h */
 
@@ -151,7 +154,7 @@ struct tenonwhisk_overview tenonwhisk_status(const uint8_t *state, size_t state_
  * them. They are bit 13 of a voice's +Ah (bit 29 of ADSR), bits 15-8 of 18Ah, 18Eh, 192h, 196h and 19Ah (bits 31-24 of
  * KON, KOFF, PMON, NON and EON), and bits 15-4 and 0 of 1ACh. Write them as 0. A state that already holds such a bit is
  * accepted. */
-uint8_t tenonwhisk_write(uint8_t *state, size_t state_len, uint32_t offset, uint16_t value);
+uint8_t tenonwhisk_write(uint16_t *state, size_t state_len, uint32_t offset, uint16_t value);
 
 struct tenonwhisk_reading {
     uint8_t number;
@@ -159,7 +162,7 @@ struct tenonwhisk_reading {
 };
 
 /* Reads a register. The state is only read. Numbers: 0, 2, 3, 5. */
-struct tenonwhisk_reading tenonwhisk_read(const uint8_t *state, size_t state_len, uint32_t offset);
+struct tenonwhisk_reading tenonwhisk_read(const uint16_t *state, size_t state_len, uint32_t offset);
 
 /* ---- transfers, at the transfer address */
 
@@ -172,13 +175,13 @@ struct tenonwhisk_moved {
 
 /* Moves 1 to 32 halfwords to sound RAM and marks them. SPUCNT's transfer mode must have been 1 or 2 at the last tick.
  * Numbers: 0, 1, 2, 6, 7. */
-struct tenonwhisk_moved tenonwhisk_transfer_in(uint8_t *state, size_t state_len, uint8_t *ram, size_t ram_len,
+struct tenonwhisk_moved tenonwhisk_transfer_in(uint16_t *state, size_t state_len, uint8_t *ram, size_t ram_len,
                                                uint8_t *marks, size_t marks_len, const uint16_t *values,
                                                size_t values_len);
 
 /* Moves 1 to 32 halfwords from sound RAM to out, as many as it holds. SPUCNT's transfer mode must have been 3 at the
  * last tick. Numbers: 0, 1, 2, 6, 7. */
-struct tenonwhisk_moved tenonwhisk_transfer_out(uint8_t *state, size_t state_len, const uint8_t *ram, size_t ram_len,
+struct tenonwhisk_moved tenonwhisk_transfer_out(uint16_t *state, size_t state_len, const uint8_t *ram, size_t ram_len,
                                                 const uint8_t *marks, size_t marks_len, uint16_t *out, size_t out_len);
 
 /* ---- sound */
@@ -192,8 +195,8 @@ struct tenonwhisk_ticked {
 };
 
 /* Makes one tick, 1/44100 s, with a pair of CD samples. Returns the pair that is heard. Numbers: 0, 1, 2. */
-struct tenonwhisk_ticked tenonwhisk_tick(uint8_t *state, size_t state_len, uint8_t *ram, size_t ram_len, uint8_t *marks,
-                                         size_t marks_len, int16_t cd_left, int16_t cd_right);
+struct tenonwhisk_ticked tenonwhisk_tick(uint16_t *state, size_t state_len, uint8_t *ram, size_t ram_len,
+                                         uint8_t *marks, size_t marks_len, int16_t cd_left, int16_t cd_right);
 
 struct tenonwhisk_ticked_floats {
     uint8_t number;
@@ -204,7 +207,7 @@ struct tenonwhisk_ticked_floats {
 };
 
 /* Does what tenonwhisk_tick does. Returns each sample divided by 32768. Numbers: 0, 1, 2. */
-struct tenonwhisk_ticked_floats tenonwhisk_tick_floats(uint8_t *state, size_t state_len, uint8_t *ram, size_t ram_len,
+struct tenonwhisk_ticked_floats tenonwhisk_tick_floats(uint16_t *state, size_t state_len, uint8_t *ram, size_t ram_len,
                                                        uint8_t *marks, size_t marks_len, int16_t cd_left,
                                                        int16_t cd_right);
 
@@ -227,23 +230,23 @@ static inline const int16_t *tenonwhisk_no_cd(void)
 
 /* Makes a tick for each pair of out (left, right, left, ..). cd holds as many pairs of CD samples, or none: cd_len is
  * out_len, or 0 for no CD. Without CD, every CD sample is zero. Numbers: 0, 1, 2, 25. */
-struct tenonwhisk_ran tenonwhisk_run(uint8_t *state, size_t state_len, uint8_t *ram, size_t ram_len, uint8_t *marks,
+struct tenonwhisk_ran tenonwhisk_run(uint16_t *state, size_t state_len, uint8_t *ram, size_t ram_len, uint8_t *marks,
                                      size_t marks_len, const int16_t *cd, size_t cd_len, int16_t *out, size_t out_len);
 
 /* Does what tenonwhisk_run does. Writes each sample divided by 32768 to floats too: floats_len is out_len. Numbers:
  * 0, 1, 2, 25. */
-struct tenonwhisk_ran tenonwhisk_run_floats(uint8_t *state, size_t state_len, uint8_t *ram, size_t ram_len,
+struct tenonwhisk_ran tenonwhisk_run_floats(uint16_t *state, size_t state_len, uint8_t *ram, size_t ram_len,
                                             uint8_t *marks, size_t marks_len, const int16_t *cd, size_t cd_len,
                                             int16_t *out, size_t out_len, float *floats, size_t floats_len);
 
 /* ---- a look at a block */
 
 /* Says whether tenonwhisk_block_view gives the block at address. Only reads what is lent. Returns 0, 1, 2 or 8. */
-uint8_t tenonwhisk_view_number(const uint8_t *state, size_t state_len, const uint8_t *ram, size_t ram_len,
+uint8_t tenonwhisk_view_number(const uint16_t *state, size_t state_len, const uint8_t *ram, size_t ram_len,
                                uint32_t address);
 
 /* Returns the sixteen bytes of the block at address, which stand in the host's own RAM. Returns NULL if refused. */
-static inline const uint8_t *tenonwhisk_block_view(const uint8_t *state, size_t state_len, const uint8_t *ram,
+static inline const uint8_t *tenonwhisk_block_view(const uint16_t *state, size_t state_len, const uint8_t *ram,
                                                    size_t ram_len, uint32_t address)
 {
     return tenonwhisk_view_number(state, state_len, ram, ram_len, address) == TENONWHISK_DONE ? ram + address : NULL;

@@ -2,7 +2,7 @@
 
 #include <stdlib.h>
 
-#define STATE core->state, sizeof core->state
+#define STATE core->state, TENONWHISK_STATE_HALFWORDS
 #define RAM core->ram, core->size
 #define MARKS core->marks, core->size / 16
 

@@ -5,7 +5,7 @@
 #include "../tenonwhisk.h"
 
 struct core {
-    uint8_t state[TENONWHISK_STATE_BYTES];
+    uint16_t state[TENONWHISK_STATE_HALFWORDS];
     uint32_t size;
     uint8_t *ram;
     uint8_t *marks;

@@ -6,10 +6,11 @@
 
 enum { TICKS = 44100, RAM_BYTES = 65536 };
 
-#define STATE state, sizeof state
+#define STATE state, TENONWHISK_STATE_HALFWORDS
 #define MEMORY STATE, ram, sizeof ram, marks, sizeof marks
 
-static uint8_t state[TENONWHISK_STATE_BYTES], ram[RAM_BYTES], marks[RAM_BYTES / 16];
+static uint16_t state[TENONWHISK_STATE_HALFWORDS];
+static uint8_t ram[RAM_BYTES], marks[RAM_BYTES / 16];
 static int16_t out[2 * TICKS]; /* left, right, left, .. */
 
 /* One period of a sine in an ADPCM block that loops on itself: shift 0, filter 0, flags 7, and 28 samples. */

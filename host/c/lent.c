@@ -10,7 +10,7 @@ enum { LENT_HALFWORDS = 32, LENT_PAIRS = 5, FILLER = 0xA5 };
 
 static size_t width(enum which which)
 {
-    static const size_t widths[BUFFERS] = {1, 1, 1, 2, 2, 2, 2, sizeof(float)};
+    static const size_t widths[BUFFERS] = {2, 1, 1, 2, 2, 2, 2, sizeof(float)};
     return widths[which];
 }
 
@@ -38,12 +38,18 @@ void lent_resize(struct lent *lent, enum which which, size_t count)
 
 void lent_make(struct lent *lent, uint32_t size)
 {
-    const size_t counts[BUFFERS] = {TENONWHISK_STATE_BYTES, size,           size / 16,      LENT_HALFWORDS,
-                                    LENT_HALFWORDS,         2 * LENT_PAIRS, 2 * LENT_PAIRS, 2 * LENT_PAIRS};
+    const size_t counts[BUFFERS] = {TENONWHISK_STATE_HALFWORDS,
+                                    size,
+                                    size / 16,
+                                    LENT_HALFWORDS,
+                                    LENT_HALFWORDS,
+                                    2 * LENT_PAIRS,
+                                    2 * LENT_PAIRS,
+                                    2 * LENT_PAIRS};
     *lent = (struct lent){0};
     for (enum which k = 0; k < BUFFERS; k++)
         lent_resize(lent, k, counts[k]);
-    tenonwhisk_make(size, lent_state(lent), TENONWHISK_STATE_BYTES);
+    tenonwhisk_make(size, lent_state(lent), TENONWHISK_STATE_HALFWORDS);
     memset(lent->buffers[RAM].data, 0, size);
     memset(lent->buffers[MARKS].data, 0, size / 16);
 }
@@ -74,7 +80,7 @@ bool lent_same(const struct lent *a, const struct lent *b)
     return true;
 }
 
-uint8_t *lent_state(const struct lent *lent)
+uint16_t *lent_state(const struct lent *lent)
 {
     return lent->buffers[STATE].data;
 }
@@ -154,75 +160,61 @@ static struct outcome run_view(const struct lent *lent)
     return (struct outcome){tenonwhisk_view_number(LEND(STATE), LEND(RAM), lent->address), empty};
 }
 
-/* ---- numbers 1 and 2: the fields of a state, by their places in its bytes */
+/* ---- numbers 1 and 2: the fields of a state */
 
-enum {
-    VOICES = 24,
-    VOICE_BYTES = 81,
-    AT_TAG = 0,
-    AT_SIZE = 4,
-    AT_REGISTERS = 8,
-    AT_VOICES = 520,
-    AT_TIMER = 2466,
-    AT_APPLIED = 2470,
-    AT_LATCH = 2472,
-    AT_DOUBT = 2473,
-    AT_CAPTURE = 2474,
-    AT_REVERB_PLACE = 2476,
-    AT_REVERB_RIGHT = 2480,
-    AT_TRANSFER = 2485,
-};
-
-static uint32_t half_at(const uint8_t *at)
+static uint32_t wide(uint16_t low, uint16_t high)
 {
-    return at[0] | (uint32_t)at[1] << 8;
+    return low | (uint32_t)high << 16;
 }
 
-static uint32_t word_at(const uint8_t *at)
+static uint32_t word_at(const uint16_t *state, size_t at)
 {
-    return half_at(at) | half_at(at + 2) << 16;
+    return wide(state[at], state[at + 1]);
 }
 
-static uint32_t register_at(const uint8_t *image, uint32_t offset)
+static bool is_tagged(const uint16_t *halfwords, size_t length)
 {
-    return half_at(image + AT_REGISTERS + offset);
+    return length == TENONWHISK_STATE_HALFWORDS && halfwords[AT_TAG] == 0x5754 && halfwords[AT_TAG + 1] == 0x0032;
 }
 
-static bool is_voice(const uint8_t *voice)
+static bool envelope_is_in_range(const uint16_t *state, size_t n)
 {
-    return voice[0] <= 5 && voice[16] <= 1 && voice[80] <= 1;
+    uint32_t phase = state[AT_PHASES + n], wait = wide(state[AT_WAITS + n], state[AT_HIGH_WAITS + n]);
+    bool moves = phase >= 1 && phase <= 4;
+    return phase <= 5 && state[AT_LEVELS + n] <= 0x7FFF && wait <= 0x400000 && (wait >= 1 || !moves);
 }
 
-bool is_image(const uint8_t *bytes, size_t length)
+static bool voice_is_in_range(const uint16_t *state, size_t n)
 {
-    if (length != TENONWHISK_STATE_BYTES || word_at(bytes + AT_TAG) != 0x00315754)
+    return envelope_is_in_range(state, n) && state[AT_COUNTERS + n] < 0x1000 && state[AT_INDICES + n] <= 27 &&
+           state[AT_ADDRESSES + n] < word_at(state, AT_SIZE) / 8 && state[AT_LOADED + n] <= 1 &&
+           state[AT_FLAGS + n] <= 0xFF && state[AT_ENDED + n] <= 1;
+}
+
+static bool control_is_in_range(const uint16_t *state)
+{
+    return word_at(state, AT_TIMER) <= 0x20000 && state[AT_LATCH] <= 1 && state[AT_DOUBT] <= 1;
+}
+
+static bool places_are_in_range(const uint16_t *state)
+{
+    uint32_t size = word_at(state, AT_SIZE), place = word_at(state, AT_REVERB_PLACE);
+    uint32_t base = state[AT_REGISTERS + 0x1A2 / 2] * 8u % size / 2;
+    return state[AT_CAPTURE] < 0x200 && place >= base && place < size / 2 && state[AT_REVERB_RIGHT] <= 1 &&
+           word_at(state, AT_TRANSFER) < size / 2;
+}
+
+bool is_state(const uint16_t *halfwords, size_t length)
+{
+    if (!is_tagged(halfwords, length))
         return false;
-    for (int n = 0; n < VOICES; n++)
-        if (!is_voice(bytes + AT_VOICES + n * VOICE_BYTES))
-            return false;
-    return bytes[AT_LATCH] <= 1 && bytes[AT_DOUBT] <= 1 && bytes[AT_REVERB_RIGHT] <= 1;
-}
-
-static bool voice_is_in_range(const uint8_t *voice, uint32_t size)
-{
-    uint32_t level = half_at(voice + 1), wait = word_at(voice + 3), address = word_at(voice + 7);
-    bool moves = voice[0] >= 1 && voice[0] <= 4;
-    return level <= 0x7FFF && wait <= 0x400000 && (wait >= 1 || !moves) && address % 8 == 0 && address < size &&
-           half_at(voice + 13) < 0x1000 && voice[15] <= 27;
-}
-
-bool is_in_range(const uint8_t *image)
-{
-    uint32_t size = word_at(image + AT_SIZE);
+    uint32_t size = word_at(halfwords, AT_SIZE);
     if (size != 65536 && size != 524288)
         return false;
-    for (int n = 0; n < VOICES; n++)
-        if (!voice_is_in_range(image + AT_VOICES + n * VOICE_BYTES, size))
+    for (size_t n = 0; n < VOICES; n++)
+        if (!voice_is_in_range(halfwords, n))
             return false;
-    uint32_t capture = half_at(image + AT_CAPTURE), transfer = word_at(image + AT_TRANSFER);
-    uint32_t place = word_at(image + AT_REVERB_PLACE), base = register_at(image, 0x1A2) * 8 % size;
-    return word_at(image + AT_TIMER) <= 0x20000 && capture % 2 == 0 && capture < 0x400 && place % 2 == 0 &&
-           place >= base && place <= size - 2 && transfer % 2 == 0 && transfer < size;
+    return control_is_in_range(halfwords) && places_are_in_range(halfwords);
 }
 
 /* ---- numbers above 2 */
@@ -289,7 +281,7 @@ static uint8_t number_of_read(const struct lent *lent)
 
 static uint32_t applied_mode(const struct lent *lent)
 {
-    return half_at(lent_state(lent) + AT_APPLIED) >> 4 & 3;
+    return lent_state(lent)[AT_APPLIED] >> 4 & 3;
 }
 
 static uint8_t number_of_count(size_t count)
@@ -321,7 +313,7 @@ static uint8_t number_of_run_floats(const struct lent *lent)
 
 static uint8_t number_of_view(const struct lent *lent)
 {
-    return lent->address % 8 == 0 && lent->address <= word_at(lent_state(lent) + AT_SIZE) - 16 ? 0 : 8;
+    return lent->address % 8 == 0 && lent->address <= word_at(lent_state(lent), AT_SIZE) - 16 ? 0 : 8;
 }
 
 static uint8_t no_number(const struct lent *lent)
@@ -346,13 +338,14 @@ const struct call calls[CALLS] = {
 
 uint8_t expected_number(const struct call *call, const struct lent *lent)
 {
-    const uint8_t *image = lent_state(lent);
-    if (!is_image(image, lent->buffers[STATE].count))
+    const uint16_t *state = lent_state(lent);
+    size_t length = lent->buffers[STATE].count;
+    if (!is_tagged(state, length))
         return 2;
-    uint32_t size = word_at(image + AT_SIZE);
+    uint32_t size = word_at(state, AT_SIZE);
     if (call->takes_ram && lent->buffers[RAM].count != size)
         return 1;
     if (call->takes_marks && lent->buffers[MARKS].count != size / 16)
         return 1;
-    return is_in_range(image) ? call->own_number(lent) : 2;
+    return is_state(state, length) ? call->own_number(lent) : 2;
 }

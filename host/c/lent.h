@@ -1,5 +1,5 @@
 /* What is lent to one call, the calls in one shape, and the number that each must return. This is the tests' own
- * reading of the rules, from the layout of a state's bytes (docs/CONTRACTS.md, image). */
+ * reading of the rules, from the layout of a state (docs/STATE.md). */
 #ifndef LENT_H
 #define LENT_H
 
@@ -27,7 +27,7 @@ void lent_copy(struct lent *to, const struct lent *from);
 bool lent_same(const struct lent *a, const struct lent *b);
 /* Gives a buffer another length. It keeps what fits, and holds A5h after it. */
 void lent_resize(struct lent *lent, enum which which, size_t count);
-uint8_t *lent_state(const struct lent *lent);
+uint16_t *lent_state(const struct lent *lent);
 
 struct outcome {
     uint8_t number;
@@ -46,9 +46,38 @@ struct call {
 enum { RESET, STATUS, WRITE, READ, TRANSFER_IN, TRANSFER_OUT, TICK, TICK_FLOATS, RUN, RUN_FLOATS, VIEW, CALLS };
 extern const struct call calls[CALLS];
 
-/* Whether the bytes are a state, and every field is in its range. */
-bool is_image(const uint8_t *bytes, size_t length);
-bool is_in_range(const uint8_t *image);
+/* The halfwords at which a state's fields stand. A field of 32 bits has its low half there. Voice n has its part of an
+ * array n places after its first. */
+enum {
+    VOICES = 24,
+    AT_TAG = 0,
+    AT_SIZE = 2,
+    AT_REGISTERS = 4,
+    AT_PHASES = 260,
+    AT_LEVELS = 284,
+    AT_WAITS = 308,
+    AT_HIGH_WAITS = 332, /* the high halves */
+    AT_COUNTERS = 356,
+    AT_INDICES = 380,
+    AT_ADDRESSES = 404,
+    AT_LOADED = 452,
+    AT_FLAGS = 476,
+    AT_ENDED = 500,
+    AT_SAMPLES = 524,
+    AT_NOISE = 1268,
+    AT_TIMER = 1269,
+    AT_APPLIED = 1271,
+    AT_LATCH = 1272,
+    AT_DOUBT = 1273,
+    AT_CAPTURE = 1274,
+    AT_REVERB_PLACE = 1275,
+    AT_REVERB_RIGHT = 1277,
+    AT_TICK = 1280,
+    AT_TRANSFER = 1282,
+};
+
+/* Whether the halfwords are a state: its length and tag, and every field in its range. */
+bool is_state(const uint16_t *halfwords, size_t length);
 /* The number that the call must return. */
 uint8_t expected_number(const struct call *call, const struct lent *lent);
 

@@ -159,10 +159,10 @@ static void measure_refused(struct lent *lent)
     lent->address = 4;
     measure_all(lent);
     lent->address = 0;
-    for (size_t k = 0; k < TENONWHISK_STATE_BYTES; k += 100) {
-        lent_state(lent)[k] ^= 0xFF;
+    for (size_t k = 0; k < TENONWHISK_STATE_HALFWORDS; k += 50) {
+        lent_state(lent)[k] ^= 0xFFFF;
         measure_all(lent);
-        lent_state(lent)[k] ^= 0xFF;
+        lent_state(lent)[k] ^= 0xFFFF;
     }
 }
 

@@ -1,4 +1,4 @@
-/* test [IMAGES]: tests through the C interface. IMAGES damaged states are tried, 20,000 if it is not given, and a
+/* test [STATES]: tests through the C interface. STATES damaged states are tried, 20,000 if it is not given, and a
  * hundredth as many of the large sound RAM. Every 217th noise level is tried, and every one if it is not given. */
 #include "check.h"
 #include "lent.h"
@@ -11,7 +11,7 @@
 #include <stdlib.h>
 #include <string.h>
 
-enum { PAIRS = 1000, IMAGES = 20000, MOST_STATE = 3000, MOST_REFUSALS = 5 };
+enum { PAIRS = 1000, DAMAGED = 20000, MOST_STATE = 1600, MOST_REFUSALS = 5 };
 
 static void random_samples(uint64_t *seed, int16_t *samples, size_t count)
 {
@@ -42,10 +42,10 @@ static void expect(const struct lent *lent, int which, uint8_t number)
     if (outcome.number != 0) {
         check(outcome.empty && lent_same(lent, &after), "%s refused with %d changes nothing", call->name, number);
     } else {
-        const uint8_t *state = lent_state(&after);
-        check(is_image(state, after.buffers[STATE].count) && is_in_range(state), "%s leaves a state", call->name);
-        uint32_t before = tenonwhisk_status(lent_state(lent), TENONWHISK_STATE_BYTES).tick;
-        uint32_t tick = tenonwhisk_status(state, TENONWHISK_STATE_BYTES).tick;
+        const uint16_t *state = lent_state(&after);
+        check(is_state(state, after.buffers[STATE].count), "%s leaves a state", call->name);
+        uint32_t before = tenonwhisk_status(lent_state(lent), TENONWHISK_STATE_HALFWORDS).tick;
+        uint32_t tick = tenonwhisk_status(state, TENONWHISK_STATE_HALFWORDS).tick;
         check(tick == (which == RESET ? 0 : before + call->ticks), "%s counts its ticks", call->name);
     }
     lent_free(&after);
@@ -71,7 +71,7 @@ static void test_lengths(uint32_t size)
     struct lent lent;
     lent_make(&lent, size);
     const size_t rams[] = {0, size - 1, size + 1, size == SMALL ? LARGE : SMALL};
-    const size_t states[] = {0, 1, TENONWHISK_STATE_BYTES - 1, TENONWHISK_STATE_BYTES + 1, MOST_STATE};
+    const size_t states[] = {0, 1, 3, TENONWHISK_STATE_HALFWORDS - 1, TENONWHISK_STATE_HALFWORDS + 1, MOST_STATE};
     for (int which = 0; which < CALLS; which++) {
         for (size_t k = 0; k < sizeof rams / sizeof *rams; k++) {
             if (calls[which].takes_ram)
@@ -148,7 +148,7 @@ static void test_transfers(void)
     for (uint16_t mode = 0; mode < 4; mode++) {
         struct lent lent;
         lent_make(&lent, SMALL);
-        tenonwhisk_write(lent_state(&lent), TENONWHISK_STATE_BYTES, 0x1AA, (uint16_t)(0xC000 | mode << 4));
+        tenonwhisk_write(lent_state(&lent), TENONWHISK_STATE_HALFWORDS, 0x1AA, (uint16_t)(0xC000 | mode << 4));
         expect(&lent, TRANSFER_IN, 6); /* no mode before the next tick */
         expect(&lent, TRANSFER_OUT, 6);
         calls[TICK].run(&lent);
@@ -196,7 +196,7 @@ static void test_views(uint32_t size)
         lent.address = good[k];
         expect(&lent, VIEW, 0);
         const uint8_t *ram = lent.buffers[RAM].data;
-        const uint8_t *view = tenonwhisk_block_view(lent_state(&lent), TENONWHISK_STATE_BYTES, ram, size, good[k]);
+        const uint8_t *view = tenonwhisk_block_view(lent_state(&lent), TENONWHISK_STATE_HALFWORDS, ram, size, good[k]);
         check(view == ram + good[k], "a view is the host's own RAM");
     }
     for (size_t k = 0; k < sizeof bad / sizeof *bad; k++) {
@@ -206,121 +206,174 @@ static void test_views(uint32_t size)
     lent_free(&lent);
 }
 
-/* ---- ranges of a state's fields, by their places in its bytes */
+/* ---- ranges of a state's fields */
 
-static void put(struct lent *lent, size_t at, size_t bytes, uint32_t value)
+struct field {
+    size_t at;
+    size_t high; /* of a field of 32 bits, its high half; else 0 */
+};
+
+static void put(struct lent *lent, struct field field, uint32_t value)
 {
-    for (size_t k = 0; k < bytes; k++)
-        lent_state(lent)[at + k] = (uint8_t)(value >> 8 * k);
+    lent_state(lent)[field.at] = (uint16_t)value;
+    if (field.high != 0)
+        lent_state(lent)[field.high] = (uint16_t)(value >> 16);
 }
 
 struct range {
-    size_t at;
-    size_t bytes;
+    struct field field;
     uint32_t good;
     uint32_t bad;
 };
+
+/* A bad length of RAM or marks goes before a bad field, but not before a bad tag. */
+static void test_number_1_first(const struct lent *lent, bool tagged)
+{
+    for (int which = 0; which < CALLS; which++) {
+        if (calls[which].takes_ram)
+            expect_resized(lent, which, RAM, lent->buffers[RAM].count - 1, tagged ? 1 : 2);
+        if (calls[which].takes_marks)
+            expect_resized(lent, which, MARKS, lent->buffers[MARKS].count + 1, tagged ? 1 : 2);
+    }
+}
 
 static void test_range(struct lent *lent, struct range range)
 {
     struct lent changed;
     lent_copy(&changed, lent);
-    put(&changed, range.at, range.bytes, range.good);
+    put(&changed, range.field, range.good);
     expect(&changed, STATUS, 0);
     expect_all_as_ruled(&changed);
-    put(&changed, range.at, range.bytes, range.bad);
+    put(&changed, range.field, range.bad);
     for (int which = 0; which < CALLS; which++)
         expect(&changed, which, 2);
+    test_number_1_first(&changed, range.field.at >= AT_SIZE);
     lent_free(&changed);
 }
 
-static void test_voice_ranges(struct lent *lent, size_t voice, uint32_t size)
+static void test_voice_ranges(struct lent *lent, size_t n, uint32_t size)
 {
+    const struct field phase = {AT_PHASES + n, 0}, wait = {AT_WAITS + n, AT_HIGH_WAITS + n};
     const struct range ranges[] = {
-        {voice, 1, 5, 6},                   /* phase */
-        {voice + 1, 2, 0x7FFF, 0x8000},     /* envelope */
-        {voice + 3, 4, 0x400000, 0x400001}, /* wait */
-        {voice + 7, 4, size - 8, size},     /* address */
-        {voice + 7, 4, 0, 4},               /* a multiple of 8 */
-        {voice + 13, 2, 0xFFF, 0x1000},     /* pitch counter */
-        {voice + 15, 1, 27, 28},            /* sample index */
-        {voice + 16, 1, 1, 2},              /* whether a block is loaded */
-        {voice + 80, 1, 1, 2},              /* whether it has ended */
+        {phase, 5, 6},
+        {phase, 0, 0x100},
+        {{AT_LEVELS + n, 0}, 0x7FFF, 0x8000},
+        {wait, 0x400000, 0x400001},
+        {wait, 0xFFFF, 0x800000},
+        {{AT_COUNTERS + n, 0}, 0xFFF, 0x1000},
+        {{AT_INDICES + n, 0}, 27, 28},
+        {{AT_LOADED + n, 0}, 1, 2},
+        {{AT_FLAGS + n, 0}, 0xFF, 0x100},
+        {{AT_ENDED + n, 0}, 1, 2},
     };
     for (size_t k = 0; k < sizeof ranges / sizeof *ranges; k++)
         test_range(lent, ranges[k]);
-    for (uint32_t phase = 1; phase <= 4; phase++) {
-        put(lent, voice, 1, phase);
-        test_range(lent, (struct range){voice + 3, 4, 1, 0}); /* it waits at least 1 */
+    if (size == SMALL) /* any halfword is an address in the large sound RAM */
+        test_range(lent, (struct range){{AT_ADDRESSES + n, 0}, SMALL / 8 - 1, SMALL / 8});
+    for (uint32_t moving = 1; moving <= 4; moving++) {
+        put(lent, phase, moving);
+        test_range(lent, (struct range){wait, 1, 0});
+        test_range(lent, (struct range){wait, 0x10000, 0}); /* the low half is 0 in both */
     }
-    put(lent, voice, 1, 0);
+    put(lent, phase, 0);
 }
 
 static void test_ranges(uint32_t size)
 {
+    const struct field place = {AT_REVERB_PLACE, AT_REVERB_PLACE + 1};
     const struct range ranges[] = {
-        {0, 1, 'T', 'U'},            /* tag */
-        {2466, 4, 0x20000, 0x20001}, /* noise timer */
-        {2472, 1, 1, 2},             /* latch */
-        {2473, 1, 1, 2},             /* doubt */
-        {2474, 2, 0x3FE, 0x400},     /* capture place */
-        {2474, 2, 0, 1},             /* even */
-        {2476, 4, size - 2, size},   /* reverb place */
-        {2476, 4, 0x10, 0x11},       /* even */
-        {2476, 4, 0x10, 0x0E},       /* from its base on */
-        {2480, 1, 1, 2},             /* the reverb's turn */
-        {2485, 4, size - 2, size},   /* transfer address */
-        {2485, 4, 0, 1},             /* even */
+        {{AT_TAG, 0}, 0x5754, 0x5457}, /* the other byte order */
+        {{AT_TAG, 0}, 0x5754, 0x5755},
+        {{AT_TAG + 1, 0}, 0x0032, 0x0031}, /* the bytes "TW1" and 0, of another layout */
+        {{AT_TIMER, AT_TIMER + 1}, 0x20000, 0x20001},
+        {{AT_LATCH, 0}, 1, 2},
+        {{AT_DOUBT, 0}, 1, 2},
+        {{AT_CAPTURE, 0}, 0x1FF, 0x200},
+        {place, size / 2 - 1, size / 2},
+        {place, 8, 7}, /* from its base on */
+        {{AT_REVERB_RIGHT, 0}, 1, 2},
+        {{AT_TRANSFER, AT_TRANSFER + 1}, size / 2 - 1, size / 2},
     };
     struct lent lent;
     lent_make(&lent, size);
-    tenonwhisk_write(lent_state(&lent), TENONWHISK_STATE_BYTES, 0x1A2, 2); /* the reverb's base is 10h */
+    tenonwhisk_write(lent_state(&lent), TENONWHISK_STATE_HALFWORDS, 0x1A2, 2); /* the reverb's base is 10h */
     for (size_t k = 0; k < sizeof ranges / sizeof *ranges; k++)
         test_range(&lent, ranges[k]);
-    test_voice_ranges(&lent, 520, size);
-    test_voice_ranges(&lent, 520 + 23 * 81, size);
+    test_voice_ranges(&lent, 0, size);
+    test_voice_ranges(&lent, VOICES - 1, size);
+    lent_free(&lent);
+}
+
+/* Lengths are compared with the L that stands in the state, whatever it is. An L other than the two is out of range. */
+static void test_sizes(void)
+{
+    const uint32_t sizes[] = {0, 1, 15, 16, SMALL - 1, SMALL + 1, SMALL + 16, 2 * SMALL, LARGE - 1, LARGE + 1};
+    struct lent lent;
+    lent_make(&lent, SMALL);
+    for (size_t k = 0; k < sizeof sizes / sizeof *sizes; k++) {
+        put(&lent, (struct field){AT_SIZE, AT_SIZE + 1}, sizes[k]);
+        lent_resize(&lent, RAM, SMALL);
+        lent_resize(&lent, MARKS, SMALL / 16);
+        for (int which = 0; which < CALLS; which++)
+            expect(&lent, which, calls[which].takes_ram ? 1 : 2);
+        lent_resize(&lent, RAM, sizes[k]);
+        lent_resize(&lent, MARKS, sizes[k] / 16);
+        for (int which = 0; which < CALLS; which++)
+            expect(&lent, which, 2);
+    }
     lent_free(&lent);
 }
 
 /* ---- damaged states */
 
-static void flip_bits(uint64_t *seed, uint8_t *state)
+static void flip_bits(uint64_t *seed, uint16_t *state, size_t from, uint32_t count)
 {
     for (uint32_t left = 1 + below(seed, 8); left > 0; left--)
-        state[below(seed, TENONWHISK_STATE_BYTES)] ^= (uint8_t)(1 << below(seed, 8));
+        state[from + below(seed, count)] ^= (uint16_t)(1 << below(seed, 16));
 }
 
-static void replace_bytes(uint64_t *seed, uint8_t *state, size_t from, size_t count)
+static void replace(uint64_t *seed, uint16_t *state, size_t from, size_t count)
 {
     for (size_t k = from; k < from + count; k++)
-        state[k] = (uint8_t)random32(seed);
+        state[k] = (uint16_t)random32(seed);
+}
+
+/* Replaces everything, or everything but the tag, or everything but the tag and L. */
+static void replace_all(uint64_t *seed, uint16_t *state)
+{
+    const size_t froms[] = {AT_TAG, AT_SIZE, AT_REGISTERS};
+    size_t from = froms[below(seed, 3)];
+    replace(seed, state, from, TENONWHISK_STATE_HALFWORDS - from);
 }
 
 static void damage(uint64_t *seed, struct lent *lent)
 {
-    uint8_t *state = lent_state(lent);
-    uint32_t from = below(seed, TENONWHISK_STATE_BYTES);
-    switch (below(seed, 6)) {
+    uint16_t *state = lent_state(lent);
+    uint32_t from = below(seed, TENONWHISK_STATE_HALFWORDS);
+    switch (below(seed, 7)) {
     case 0:
     case 1:
-        flip_bits(seed, state);
+        flip_bits(seed, state, 0, TENONWHISK_STATE_HALFWORDS);
         break;
     case 2:
-        replace_bytes(seed, state, from, 1);
+        flip_bits(seed, state, AT_PHASES, AT_SAMPLES - AT_PHASES);
         break;
     case 3:
-        replace_bytes(seed, state, from, 1 + below(seed, TENONWHISK_STATE_BYTES - from));
+        replace(seed, state, from, 1);
         break;
     case 4:
-        replace_bytes(seed, state, below(seed, 2) * 8, TENONWHISK_STATE_BYTES - 8); /* tag and size damaged or not */
+        replace(seed, state, from, 1 + below(seed, TENONWHISK_STATE_HALFWORDS - from));
         break;
     case 5:
+        replace_all(seed, state);
+        break;
+    case 6:
         lent_resize(lent, STATE, below(seed, MOST_STATE + 1));
         break;
     }
 }
 
-static void test_damaged_states(uint32_t size, unsigned long images)
+static void test_damaged_states(uint32_t size, unsigned long states)
 {
     uint64_t seed = 1;
     struct core core;
@@ -328,8 +381,8 @@ static void test_damaged_states(uint32_t size, unsigned long images)
     must_make_composed(&core, size, 1);
     lent_make(&lent, size);
     memcpy(lent.buffers[RAM].data, core.ram, size);
-    for (; images > 0; images--) {
-        lent_resize(&lent, STATE, TENONWHISK_STATE_BYTES);
+    for (; states > 0; states--) {
+        lent_resize(&lent, STATE, TENONWHISK_STATE_HALFWORDS);
         memcpy(lent_state(&lent), core.state, sizeof core.state);
         damage(&seed, &lent);
         lent.offset = 2 * below(&seed, 0x110);
@@ -371,20 +424,23 @@ static void test_seen(void)
 
 static void test_make(void)
 {
-    uint8_t small[TENONWHISK_STATE_BYTES], other[TENONWHISK_STATE_BYTES + 1], untouched[sizeof other];
+    enum { LENGTH = TENONWHISK_STATE_HALFWORDS };
+    uint16_t small[LENGTH], other[LENGTH + 1], untouched[LENGTH + 1];
     const uint32_t wrong[] = {0, 1, SMALL - 1, SMALL + 1, LARGE - 1, LARGE + 1, 0xFFFFFFFF};
-    check(tenonwhisk_make(SMALL, small, sizeof small) == 0, "make");
+    check(tenonwhisk_make(SMALL, small, LENGTH) == 0 && is_state(small, LENGTH), "make");
     for (size_t k = 0; k < sizeof wrong / sizeof *wrong; k++) {
-        check(tenonwhisk_make(wrong[k], other, sizeof small) == 1, "make of another size gives 1");
+        check(tenonwhisk_make(wrong[k], other, LENGTH) == 1, "make of another size gives 1");
         check(memcmp(other, small, sizeof small) == 0, "and the state for 65,536");
     }
     memset(other, 0xA5, sizeof other);
     memcpy(untouched, other, sizeof other);
-    check(tenonwhisk_make(LARGE, other, sizeof other) == 2, "make of more bytes gives 2");
-    check(tenonwhisk_make(LARGE, other, sizeof small - 1) == 2, "make of fewer bytes gives 2");
+    check(tenonwhisk_make(LARGE, other, LENGTH + 1) == 2, "make of more halfwords gives 2");
+    check(tenonwhisk_make(LARGE, other, LENGTH - 1) == 2, "make of fewer halfwords gives 2");
+    check(tenonwhisk_make(LARGE + 1, other, LENGTH + 1) == 1, "and 1 if the size is wrong too");
+    check(tenonwhisk_make(0, other, LENGTH - 1) == 1, "and 1 if the size is wrong too");
     check(memcmp(other, untouched, sizeof other) == 0, "and writes none");
-    check(tenonwhisk_make(LARGE, other, sizeof small) == 0, "make");
-    struct tenonwhisk_overview overview = tenonwhisk_status(other, sizeof small);
+    check(tenonwhisk_make(LARGE, other, LENGTH) == 0 && is_state(other, LENGTH), "make");
+    struct tenonwhisk_overview overview = tenonwhisk_status(other, LENGTH);
     check(overview.number == 0 && overview.size == LARGE && overview.tick == 0 && !overview.doubt,
           "status of a fresh state");
 }
@@ -392,7 +448,7 @@ static void test_make(void)
 static void test_reset(uint32_t size)
 {
     struct core core, before;
-    uint8_t made[TENONWHISK_STATE_BYTES];
+    uint16_t made[TENONWHISK_STATE_HALFWORDS];
     static uint8_t ram[LARGE], marks[LARGE / 16];
     int16_t cd[200] = {0}, out[200];
     must_make_composed(&core, size, 2);
@@ -401,7 +457,7 @@ static void test_reset(uint32_t size)
     before.ram = memcpy(ram, core.ram, size);
     before.marks = memcpy(marks, core.marks, size / 16);
     check(core_reset(&core) == 0, "reset");
-    tenonwhisk_make(size, made, sizeof made);
+    tenonwhisk_make(size, made, TENONWHISK_STATE_HALFWORDS);
     memcpy(before.state, made, sizeof made);
     check(same_cores(&core, &before), "reset gives the state as made; RAM and marks stay");
     core_free(&core);
@@ -411,8 +467,8 @@ static void test_tick_number(void)
 {
     struct core core;
     must_make(&core, SMALL);
-    memset(core.state + TENONWHISK_STATE_BYTES - 4, 0xFF, 4);
-    check(core_status(&core).tick == 0xFFFFFFFF, "the tick number stands last in a state");
+    core.state[AT_TICK] = core.state[AT_TICK + 1] = 0xFFFF;
+    check(core_status(&core).tick == 0xFFFFFFFF, "the tick number stands in its place");
     check(core_tick(&core, 0, 0).number == 0 && core_status(&core).tick == 0, "it passes from FFFFFFFFh to 0");
     core_free(&core);
 }
@@ -427,15 +483,15 @@ static uint16_t shifted(uint32_t level)
 }
 
 /* The level after a tick, for 0 pairs, or after a run. */
-static uint16_t next_level(struct core *core, uint32_t level, uint8_t timer, size_t pairs)
+static uint16_t next_level(struct core *core, uint32_t level, uint16_t timer, size_t pairs)
 {
     int16_t out[2 * 2];
-    uint8_t *noise = core->state + 2464; /* the level in two bytes, then the timer in four */
-    const uint8_t bytes[6] = {(uint8_t)level, (uint8_t)(level >> 8), timer};
-    memcpy(noise, bytes, sizeof bytes);
+    core->state[AT_NOISE] = (uint16_t)level;
+    core->state[AT_TIMER] = timer;
+    core->state[AT_TIMER + 1] = 0;
     uint8_t number = pairs == 0 ? core_tick(core, 0, 0).number : core_run(core, NULL, out, pairs).number;
     check(number == 0, "noise %04Xh is accepted", (unsigned)level);
-    return (uint16_t)(noise[0] + 0x100 * noise[1]);
+    return core->state[AT_NOISE];
 }
 
 /* Each tick takes 4 from the timer. So the noise moves in a single tick, in the first tick of a run and in the second:
@@ -614,13 +670,11 @@ static void test_restored(void)
     core_free(&kept);
 }
 
-/* Sets bits of a register in the state's bytes, past the calls. */
+/* Sets bits of a register in the state, past the calls. */
 static void hold(struct core *core, uint32_t offset, uint16_t bits)
 {
-    enum { AT_REGISTERS = 8 };
     uint16_t held = core_read(core, offset).value | bits;
-    core->state[AT_REGISTERS + offset] = (uint8_t)held;
-    core->state[AT_REGISTERS + offset + 1] = (uint8_t)(held >> 8);
+    core->state[AT_REGISTERS + offset / 2] = held;
     struct tenonwhisk_reading reading = core_read(core, offset);
     check(reading.number == 0 && reading.value == held, "%03Xh holds %04Xh", (unsigned)offset, held);
 }
@@ -743,7 +797,7 @@ static void test_size(uint32_t size)
 
 int main(int argc, char **argv)
 {
-    unsigned long images = argc > 1 ? strtoul(argv[1], NULL, 10) : IMAGES;
+    unsigned long states = argc > 1 ? strtoul(argv[1], NULL, 10) : DAMAGED;
     test_make();
     test_size(SMALL);
     test_size(LARGE);
@@ -752,8 +806,9 @@ int main(int argc, char **argv)
     test_order();
     test_transfers();
     test_run_buffers();
-    test_damaged_states(SMALL, images);
-    test_damaged_states(LARGE, images / 100);
+    test_sizes();
+    test_damaged_states(SMALL, states);
+    test_damaged_states(LARGE, states / 100);
     test_seen();
     test_tick_number();
     test_noise(argc > 1 ? 217 : 1);
