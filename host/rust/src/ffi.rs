@@ -95,37 +95,37 @@ pub struct Verdict {
 
 #[rustfmt::skip]
 unsafe extern "C" {
-    fn tenonwhisk_make(size: u32, state: *mut u8, state_len: usize) -> u8;
-    fn tenonwhisk_reset(state: *mut u8, state_len: usize) -> u8;
-    fn tenonwhisk_status(state: *const u8, state_len: usize) -> Overview;
-    fn tenonwhisk_write(state: *mut u8, state_len: usize, offset: u32, value: u16) -> u8;
-    fn tenonwhisk_read(state: *const u8, state_len: usize, offset: u32) -> Reading;
+    fn tenonwhisk_make(size: u32, state: *mut u16, state_len: usize) -> u8;
+    fn tenonwhisk_reset(state: *mut u16, state_len: usize) -> u8;
+    fn tenonwhisk_status(state: *const u16, state_len: usize) -> Overview;
+    fn tenonwhisk_write(state: *mut u16, state_len: usize, offset: u32, value: u16) -> u8;
+    fn tenonwhisk_read(state: *const u16, state_len: usize, offset: u32) -> Reading;
     fn tenonwhisk_transfer_in(
-        state: *mut u8, state_len: usize, ram: *mut u8, ram_len: usize, marks: *mut u8, marks_len: usize,
+        state: *mut u16, state_len: usize, ram: *mut u8, ram_len: usize, marks: *mut u8, marks_len: usize,
         values: *const u16, values_len: usize,
     ) -> Moved;
     fn tenonwhisk_transfer_out(
-        state: *mut u8, state_len: usize, ram: *const u8, ram_len: usize, marks: *const u8, marks_len: usize,
+        state: *mut u16, state_len: usize, ram: *const u8, ram_len: usize, marks: *const u8, marks_len: usize,
         out: *mut u16, out_len: usize,
     ) -> Moved;
     fn tenonwhisk_tick(
-        state: *mut u8, state_len: usize, ram: *mut u8, ram_len: usize, marks: *mut u8, marks_len: usize,
+        state: *mut u16, state_len: usize, ram: *mut u8, ram_len: usize, marks: *mut u8, marks_len: usize,
         cd_left: i16, cd_right: i16,
     ) -> Ticked<i16>;
     fn tenonwhisk_tick_floats(
-        state: *mut u8, state_len: usize, ram: *mut u8, ram_len: usize, marks: *mut u8, marks_len: usize,
+        state: *mut u16, state_len: usize, ram: *mut u8, ram_len: usize, marks: *mut u8, marks_len: usize,
         cd_left: i16, cd_right: i16,
     ) -> Ticked<c_float>;
     fn tenonwhisk_run(
-        state: *mut u8, state_len: usize, ram: *mut u8, ram_len: usize, marks: *mut u8, marks_len: usize,
+        state: *mut u16, state_len: usize, ram: *mut u8, ram_len: usize, marks: *mut u8, marks_len: usize,
         cd: *const i16, cd_len: usize, out: *mut i16, out_len: usize,
     ) -> Ran;
     fn tenonwhisk_run_floats(
-        state: *mut u8, state_len: usize, ram: *mut u8, ram_len: usize, marks: *mut u8, marks_len: usize,
+        state: *mut u16, state_len: usize, ram: *mut u8, ram_len: usize, marks: *mut u8, marks_len: usize,
         cd: *const i16, cd_len: usize, out: *mut i16, out_len: usize, floats: *mut c_float, floats_len: usize,
     ) -> Ran;
     fn tenonwhisk_view_number(
-        state: *const u8, state_len: usize, ram: *const u8, ram_len: usize, address: u32,
+        state: *const u16, state_len: usize, ram: *const u8, ram_len: usize, address: u32,
     ) -> u8;
     fn tenonwhisk_bank_find(
         title: *const u8, title_len: usize, house: *const u8, house_len: usize, number: u32,
@@ -146,32 +146,32 @@ unsafe extern "C" {
     ) -> Verdict;
 }
 
-pub fn make(size: u32, state: &mut [u8]) -> u8 {
+pub fn make(size: u32, state: &mut [u16]) -> u8 {
     // SAFETY: the pointer and the length are those of a slice.
     unsafe { tenonwhisk_make(size, state.as_mut_ptr(), state.len()) }
 }
 
-pub fn reset(state: &mut [u8]) -> u8 {
+pub fn reset(state: &mut [u16]) -> u8 {
     // SAFETY: the pointer and the length are those of a slice.
     unsafe { tenonwhisk_reset(state.as_mut_ptr(), state.len()) }
 }
 
-pub fn status(state: &[u8]) -> Overview {
+pub fn status(state: &[u16]) -> Overview {
     // SAFETY: the pointer and the length are those of a slice, which is only read.
     unsafe { tenonwhisk_status(state.as_ptr(), state.len()) }
 }
 
-pub fn write(state: &mut [u8], offset: u32, value: u16) -> u8 {
+pub fn write(state: &mut [u16], offset: u32, value: u16) -> u8 {
     // SAFETY: the pointer and the length are those of a slice.
     unsafe { tenonwhisk_write(state.as_mut_ptr(), state.len(), offset, value) }
 }
 
-pub fn read(state: &[u8], offset: u32) -> Reading {
+pub fn read(state: &[u16], offset: u32) -> Reading {
     // SAFETY: the pointer and the length are those of a slice, which is only read.
     unsafe { tenonwhisk_read(state.as_ptr(), state.len(), offset) }
 }
 
-pub fn transfer_in(state: &mut [u8], ram: &mut [u8], marks: &mut [u8], values: &[u16]) -> Moved {
+pub fn transfer_in(state: &mut [u16], ram: &mut [u8], marks: &mut [u8], values: &[u16]) -> Moved {
     // SAFETY: pointers and lengths are those of slices, which do not overlap; `values` is only read.
     unsafe {
         tenonwhisk_transfer_in(
@@ -187,7 +187,7 @@ pub fn transfer_in(state: &mut [u8], ram: &mut [u8], marks: &mut [u8], values: &
     }
 }
 
-pub fn transfer_out(state: &mut [u8], ram: &[u8], marks: &[u8], out: &mut [u16]) -> Moved {
+pub fn transfer_out(state: &mut [u16], ram: &[u8], marks: &[u8], out: &mut [u16]) -> Moved {
     // SAFETY: pointers and lengths are those of slices; those that are written overlap no other.
     unsafe {
         tenonwhisk_transfer_out(
@@ -203,7 +203,7 @@ pub fn transfer_out(state: &mut [u8], ram: &[u8], marks: &[u8], out: &mut [u16])
     }
 }
 
-pub fn tick(state: &mut [u8], ram: &mut [u8], marks: &mut [u8], cd_left: i16, cd_right: i16) -> Ticked<i16> {
+pub fn tick(state: &mut [u16], ram: &mut [u8], marks: &mut [u8], cd_left: i16, cd_right: i16) -> Ticked<i16> {
     // SAFETY: pointers and lengths are those of slices, which do not overlap.
     unsafe {
         tenonwhisk_tick(
@@ -219,7 +219,7 @@ pub fn tick(state: &mut [u8], ram: &mut [u8], marks: &mut [u8], cd_left: i16, cd
     }
 }
 
-pub fn tick_floats(state: &mut [u8], ram: &mut [u8], marks: &mut [u8], cd_left: i16, cd_right: i16) -> Ticked<f32> {
+pub fn tick_floats(state: &mut [u16], ram: &mut [u8], marks: &mut [u8], cd_left: i16, cd_right: i16) -> Ticked<f32> {
     // SAFETY: pointers and lengths are those of slices, which do not overlap.
     unsafe {
         tenonwhisk_tick_floats(
@@ -235,7 +235,7 @@ pub fn tick_floats(state: &mut [u8], ram: &mut [u8], marks: &mut [u8], cd_left: 
     }
 }
 
-pub fn run(state: &mut [u8], ram: &mut [u8], marks: &mut [u8], cd: &[i16], out: &mut [i16]) -> Ran {
+pub fn run(state: &mut [u16], ram: &mut [u8], marks: &mut [u8], cd: &[i16], out: &mut [i16]) -> Ran {
     // SAFETY: pointers and lengths are those of slices, which do not overlap; `cd` is only read.
     unsafe {
         tenonwhisk_run(
@@ -254,7 +254,7 @@ pub fn run(state: &mut [u8], ram: &mut [u8], marks: &mut [u8], cd: &[i16], out: 
 }
 
 pub fn run_floats(
-    state: &mut [u8],
+    state: &mut [u16],
     ram: &mut [u8],
     marks: &mut [u8],
     cd: &[i16],
@@ -280,7 +280,7 @@ pub fn run_floats(
     }
 }
 
-pub fn view_number(state: &[u8], ram: &[u8], address: u32) -> u8 {
+pub fn view_number(state: &[u16], ram: &[u8], address: u32) -> u8 {
     // SAFETY: pointers and lengths are those of slices, which are only read.
     unsafe { tenonwhisk_view_number(state.as_ptr(), state.len(), ram.as_ptr(), ram.len(), address) }
 }

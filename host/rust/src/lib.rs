@@ -1,6 +1,6 @@
 //! Tenonwhisk: a proved core of an old console's sound chip (SPU), over its C interface (`tenonwhisk.h`).
 //!
-//! [`Spu`] is the chip with its sound RAM, owned or lent. [`State`] is the rest of the chip, as plain bytes. [`bank`]
+//! [`Spu`] is the chip with its sound RAM, owned or lent. [`State`] is the rest of the chip, as plain halfwords. [`bank`]
 //! looks up sounds in sound banks and writes banks. [`xa`] decodes speech. [`encoder`] checks what an encoder made. A
 //! call that is refused returns a [`Refusal`] and changes nothing.
 //!

@@ -11,7 +11,7 @@ use core::fmt;
 pub enum Refusal {
     /// 1: sound RAM or marks do not have the size that the state was made for.
     Memory = 1,
-    /// 2: the bytes are not a state, or a field of the state is out of range.
+    /// 2: the halfwords are not a state, or a field of the state is out of range.
     State = 2,
     /// 3: the register offset is odd or not listed.
     Offset = 3,
@@ -86,7 +86,7 @@ impl fmt::Display for Refusal {
                 "sound RAM or marks do not have the size that the state was made for \
                  (RAM 65,536 or 524,288 bytes, marks a sixteenth)"
             }
-            Refusal::State => "the bytes are not a state, or a field of the state is out of range",
+            Refusal::State => "the halfwords are not a state, or a field of the state is out of range",
             Refusal::Offset => "there is no register at this offset",
             Refusal::ReadOnly => "this register can only be read",
             Refusal::NotCarried => "this register, or this value of it, is not carried",

@@ -187,37 +187,37 @@ impl<M: AsRef<[u8]> + AsMut<[u8]>> Spu<M> {
     ///
     /// SPUCNT's transfer mode (bits 5-4) must have been 1 or 2 at the last tick.
     pub fn transfer_in(&mut self, values: &[u16]) -> Result<Moved, Refusal> {
-        moved(ffi::transfer_in(self.state.bytes_mut(), self.ram.as_mut(), self.marks.as_mut(), values))
+        moved(ffi::transfer_in(self.state.halfwords_mut(), self.ram.as_mut(), self.marks.as_mut(), values))
     }
 
     /// Moves 1 to 32 halfwords from sound RAM, at the transfer address, to `out`: as many as it holds.
     ///
     /// SPUCNT's transfer mode (bits 5-4) must have been 3 at the last tick.
     pub fn transfer_out(&mut self, out: &mut [u16]) -> Result<Moved, Refusal> {
-        moved(ffi::transfer_out(self.state.bytes_mut(), self.ram.as_ref(), self.marks.as_ref(), out))
+        moved(ffi::transfer_out(self.state.halfwords_mut(), self.ram.as_ref(), self.marks.as_ref(), out))
     }
 
     /// Makes one tick, 1/44100 s, with a pair of CD samples.
     pub fn tick(&mut self, cd_left: i16, cd_right: i16) -> Result<Ticked<i16>, Refusal> {
-        let state = self.state.bytes_mut();
+        let state = self.state.halfwords_mut();
         ticked(ffi::tick(state, self.ram.as_mut(), self.marks.as_mut(), cd_left, cd_right))
     }
 
     /// Does what [`Spu::tick`] does, and returns each sample divided by 32768.
     pub fn tick_floats(&mut self, cd_left: i16, cd_right: i16) -> Result<Ticked<f32>, Refusal> {
-        let state = self.state.bytes_mut();
+        let state = self.state.halfwords_mut();
         ticked(ffi::tick_floats(state, self.ram.as_mut(), self.marks.as_mut(), cd_left, cd_right))
     }
 
     /// Makes a tick for each pair of `out` (left, right, left, ..). `cd` holds as many pairs of CD samples, or is empty
     /// for no CD: then every CD sample is zero.
     pub fn run(&mut self, cd: &[i16], out: &mut [i16]) -> Result<Ran, Refusal> {
-        ran(ffi::run(self.state.bytes_mut(), self.ram.as_mut(), self.marks.as_mut(), cd, out))
+        ran(ffi::run(self.state.halfwords_mut(), self.ram.as_mut(), self.marks.as_mut(), cd, out))
     }
 
     /// Does what [`Spu::run`] does, and writes each sample divided by 32768 to `floats` too, which is as long as `out`.
     pub fn run_floats(&mut self, cd: &[i16], out: &mut [i16], floats: &mut [f32]) -> Result<Ran, Refusal> {
-        ran(ffi::run_floats(self.state.bytes_mut(), self.ram.as_mut(), self.marks.as_mut(), cd, out, floats))
+        ran(ffi::run_floats(self.state.halfwords_mut(), self.ram.as_mut(), self.marks.as_mut(), cd, out, floats))
     }
 
     /// The sixteen bytes of the block at an address of sound RAM, which is a multiple of 8: the chip's own RAM, not a
@@ -245,7 +245,7 @@ impl<M: AsRef<[u8]> + AsMut<[u8]>> Spu<M> {
     /// ```
     pub fn block_view(&self, address: u32) -> Result<&[u8; 16], Refusal> {
         let ram = self.ram.as_ref();
-        Refusal::check(ffi::view_number(self.state.as_bytes(), ram, address), ())?;
+        Refusal::check(ffi::view_number(self.state.as_halfwords(), ram, address), ())?;
         let at = usize::try_from(address).map_err(|_| Refusal::Address)?;
         ram.get(at..).and_then(<[u8]>::first_chunk).ok_or(Refusal::Address)
     }

@@ -26,47 +26,60 @@ impl Size {
     }
 }
 
-/// The whole chip except sound RAM and marks, as plain bytes: copy it, save it, send it elsewhere.
+/// The whole chip except sound RAM and marks, as plain halfwords: copy it, save it, send it elsewhere.
 ///
-/// A `State` is always a good one: it was made, or [`State::from_bytes`] checked it. The first four bytes name the layout,
-/// so a state with another layout is refused, never misread.
+/// A `State` is always a good one: it was made, or [`State::from_halfwords`] checked it. The first two halfwords name the
+/// layout, so a state with another layout is refused, never misread.
 ///
 /// ```
 /// use tenonwhisk::{Refusal, Size, State};
 ///
 /// let mut state = State::new(Size::K64);
 /// state.write(0x180, 0x3FFF)?;
-/// let saved = *state.as_bytes();
-/// assert_eq!(State::from_bytes(&saved)?, state);
-/// assert_eq!(State::from_bytes(&saved[1..]), Err(Refusal::State));
+/// let saved = *state.as_halfwords();
+/// assert_eq!(State::from_halfwords(&saved)?, state);
+/// assert_eq!(State::from_halfwords(&saved[1..]), Err(Refusal::State));
+/// # Ok::<(), Refusal>(())
+/// ```
+///
+/// A file takes bytes. Saved with the low byte of each halfword first, a state loads on a machine of either byte order:
+///
+#[cfg_attr(feature = "alloc", doc = "```")]
+#[cfg_attr(not(feature = "alloc"), doc = "```ignore")]
+/// # use tenonwhisk::{Refusal, Size, State};
+/// # let state = State::new(Size::K64);
+/// let file: Vec<u8> = state.as_halfwords().iter().flat_map(|half| half.to_le_bytes()).collect();
+///
+/// let halfwords: Vec<u16> = file.chunks(2).map(|pair| u16::from_le_bytes([pair[0], pair[1]])).collect();
+/// assert_eq!(State::from_halfwords(&halfwords)?, state);
 /// # Ok::<(), Refusal>(())
 /// ```
 #[derive(Clone, PartialEq, Eq)]
-pub struct State([u8; State::BYTES]);
+pub struct State([u16; State::HALFWORDS]);
 
 impl State {
-    /// The length of a state in bytes.
-    pub const BYTES: usize = 2493;
+    /// The length of a state in halfwords.
+    pub const HALFWORDS: usize = 1284;
 
     /// Makes a fresh state.
     pub fn new(size: Size) -> State {
-        let mut bytes = [0; State::BYTES];
-        ffi::make(size.ram_bytes() as u32, &mut bytes);
-        State(bytes)
+        let mut halfwords = [0; State::HALFWORDS];
+        ffi::make(size.ram_bytes() as u32, &mut halfwords);
+        State(halfwords)
     }
 
-    /// Takes a saved state. Other bytes, and a state with a field out of range, are refused.
-    pub fn from_bytes(bytes: &[u8]) -> Result<State, Refusal> {
-        let state = State(bytes.try_into().map_err(|_| Refusal::State)?);
+    /// Takes a saved state. Other halfwords, and a state with a field out of range, are refused.
+    pub fn from_halfwords(halfwords: &[u16]) -> Result<State, Refusal> {
+        let state = State(halfwords.try_into().map_err(|_| Refusal::State)?);
         Refusal::check(ffi::status(&state.0).number, state)
     }
 
-    /// The bytes to save.
-    pub fn as_bytes(&self) -> &[u8; State::BYTES] {
+    /// The halfwords to save.
+    pub fn as_halfwords(&self) -> &[u16; State::HALFWORDS] {
         &self.0
     }
 
-    pub(crate) fn bytes_mut(&mut self) -> &mut [u8] {
+    pub(crate) fn halfwords_mut(&mut self) -> &mut [u16] {
         &mut self.0
     }
 
@@ -115,16 +128,16 @@ impl fmt::Debug for State {
     }
 }
 
-impl TryFrom<&[u8]> for State {
+impl TryFrom<&[u16]> for State {
     type Error = Refusal;
 
-    fn try_from(bytes: &[u8]) -> Result<State, Refusal> {
-        State::from_bytes(bytes)
+    fn try_from(halfwords: &[u16]) -> Result<State, Refusal> {
+        State::from_halfwords(halfwords)
     }
 }
 
-impl AsRef<[u8]> for State {
-    fn as_ref(&self) -> &[u8] {
+impl AsRef<[u16]> for State {
+    fn as_ref(&self) -> &[u16] {
         &self.0
     }
 }

@@ -245,11 +245,11 @@ impl AsMut<[u8]> for Unshown {
 fn a_saved_state_goes_on_the_same() {
     let mut spu = composed(Size::K64, 4);
     play(&mut spu);
-    let saved = spu.state().as_bytes().to_vec();
+    let saved = spu.state().as_halfwords().to_vec();
     let mut restored = spu.clone();
     restored.reset();
     assert_eq!(restored.state(), &State::new(Size::K64));
-    restored.set_state(State::from_bytes(&saved).unwrap()).unwrap();
+    restored.set_state(State::from_halfwords(&saved).unwrap()).unwrap();
     assert_eq!(play(&mut spu), play(&mut restored));
     assert_same(&spu, &restored);
 }
@@ -257,14 +257,27 @@ fn a_saved_state_goes_on_the_same() {
 #[test]
 fn damaged_states() {
     let good = composed(Size::K64, 1).state().clone();
-    for damaged in [0, 3, 6, 520, 2473] {
-        let mut bytes = *good.as_bytes();
-        bytes[damaged] ^= 0x80;
-        assert_eq!(State::from_bytes(&bytes), Err(Refusal::State), "byte {damaged}");
+    for damaged in [0, 1, 3, 260, 283, 452, 476, 500, 1273, 1277, 1283] {
+        let mut halfwords = *good.as_halfwords();
+        halfwords[damaged] ^= 0x8000;
+        assert_eq!(State::from_halfwords(&halfwords), Err(Refusal::State), "halfword {damaged}");
     }
-    for length in [0, 1, State::BYTES - 1] {
-        assert_eq!(State::try_from(&good.as_bytes()[..length]), Err(Refusal::State));
+    for any in [4, 259, 428, 451, 524, 1267, 1268, 1278, 1280, 1281] {
+        let mut halfwords = *good.as_halfwords();
+        halfwords[any] ^= 0x8000;
+        assert_eq!(State::from_halfwords(&halfwords).unwrap().as_halfwords(), &halfwords, "halfword {any}");
     }
+    for length in [0, 1, State::HALFWORDS - 1] {
+        assert_eq!(State::try_from(&good.as_halfwords()[..length]), Err(Refusal::State));
+    }
+}
+
+#[test]
+fn a_state_of_the_other_byte_order() {
+    let state = composed(Size::K64, 1).state().clone();
+    let swapped = state.as_halfwords().map(u16::swap_bytes);
+    assert_eq!((state.as_halfwords()[0], swapped[0]), (0x5754, 0x5457));
+    assert_eq!(State::from_halfwords(&swapped), Err(Refusal::State));
 }
 
 #[test]

@@ -57,7 +57,7 @@ fn version() {
 
 #[test]
 fn length_of_a_state() {
-    assert_eq!(between("#define TENONWHISK_STATE_BYTES ", "\n"), State::BYTES.to_string());
+    assert_eq!(between("#define TENONWHISK_STATE_HALFWORDS ", "\n"), State::HALFWORDS.to_string());
 }
 
 #[test]
