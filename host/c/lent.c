@@ -179,7 +179,7 @@ static bool is_tagged(const uint16_t *halfwords, size_t length)
 
 static bool envelope_is_in_range(const uint16_t *state, size_t n)
 {
-    uint32_t phase = state[AT_PHASES + n], wait = wide(state[AT_WAITS + n], state[AT_HIGH_WAITS + n]);
+    uint32_t phase = state[AT_PHASES + n], wait = wide(state[AT_WAITS + 2 * n], state[AT_WAITS + 2 * n + 1]);
     bool moves = phase >= 1 && phase <= 4;
     return phase <= 5 && state[AT_LEVELS + n] <= 0x7FFF && wait <= 0x400000 && (wait >= 1 || !moves);
 }

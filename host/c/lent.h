@@ -55,8 +55,7 @@ enum {
     AT_REGISTERS = 4,
     AT_PHASES = 260,
     AT_LEVELS = 284,
-    AT_WAITS = 308,
-    AT_HIGH_WAITS = 332, /* the high halves */
+    AT_WAITS = 308, /* two for each voice: low half, high half */
     AT_COUNTERS = 356,
     AT_INDICES = 380,
     AT_ADDRESSES = 404,

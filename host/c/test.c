@@ -253,7 +253,7 @@ static void test_range(struct lent *lent, struct range range)
 
 static void test_voice_ranges(struct lent *lent, size_t n, uint32_t size)
 {
-    const struct field phase = {AT_PHASES + n, 0}, wait = {AT_WAITS + n, AT_HIGH_WAITS + n};
+    const struct field phase = {AT_PHASES + n, 0}, wait = {AT_WAITS + 2 * n, AT_WAITS + 2 * n + 1};
     const struct range ranges[] = {
         {phase, 5, 6},
         {phase, 0, 0x100},
