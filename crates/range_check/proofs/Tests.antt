@@ -1,6 +1,6 @@
 -- The tests of a state, as the code makes them: the voices array by array, and the rest. Assumes nothing.
 use mathlib.Core.Path.{_≡_, refl, sym, ap, _∙_}
-use mathlib.Core.Bool.{Bool, true, false, not, _&&_, _||_, and-assoc, and-comm, and-true, and-false}
+use mathlib.Core.Bool.{Bool, true, false, not, _&&_, _||_, and-assoc, and-comm, and-true, and-false, false≢true}
 use mathlib.Core.List.{List, [], _∷_, _++_}
 use Prim.Native.Nat.{ℕ, zero, suc, _+_, _-_, _*_, _/_, _%_, _≤_, _<_}
 use native.Mathlib.Omega.{arith}
@@ -37,6 +37,10 @@ same-test a b c d f g = same _ _ (λ e. le-leb c d (f (leb-true a b e))) (λ e. 
 swap : (a b c : Bool) → (a && (b && c)) ≡ (b && (a && c))
 swap true b c = refl
 swap false b c = sym (and-false b)
+
+stopped : (a b : Bool) → false ≡ (a && (b && false))
+stopped true b = sym (and-false b)
+stopped false b = refl
 
 -- ---- L and its last unit
 
@@ -127,6 +131,17 @@ module _ (xs : List ℕ) where
       (and-all _ _ 24 ea (and-all _ _ 24 eb (and-all _ _ 24 ec (and-all _ _ 24 ed (and-all _ _ 24 ee (and-all _ _ 24 ef (and-all _ _ 24 eg (and-all _ _ 24 eh ei)))))))
       ∙ all-same _ _ 24 (one-voice last)
       ∙ all-and _ _ 24)
+
+  -- the waits are tested before the others
+  pub waits-no : (last : ℕ) (c : Bool) → c ≡ allBelow 24 waiting → not c ≡ true → false ≡ (every isRow (partsOf xs .rows) && everyOk ((last + 1) * 8) (stateOf xs .voices) 24)
+  waits-no last false ec t = stopped (allBelow 24 (column 260 5)) (allBelow 24 (column 284 0x7FFF)) ∙ voices-tested last refl refl ec refl refl refl refl refl refl
+  waits-no last true ec t = absurd (false≢true t)
+
+  pub waits-yes : (last : ℕ) (c : Bool) → c ≡ allBelow 24 waiting → not c ≡ false → {a b d e f g h i : Bool} → a ≡ allBelow 24 (column 260 5) → b ≡ allBelow 24 (column 284 0x7FFF)
+      → d ≡ allBelow 24 (column 356 0xFFF) → e ≡ allBelow 24 (column 380 27) → f ≡ allBelow 24 (column 404 last) → g ≡ allBelow 24 (column 452 1) → h ≡ allBelow 24 (column 476 0xFF)
+      → i ≡ allBelow 24 (column 500 1) → (a && (b && (d && (e && (f && (g && (h && i))))))) ≡ (every isRow (partsOf xs .rows) && everyOk ((last + 1) * 8) (stateOf xs .voices) 24)
+  waits-yes last true ec t ea eb ed ee ef eg eh ei = voices-tested last ea eb ec ed ee ef eg eh ei
+  waits-yes last false ec t ea eb ed ee ef eg eh ei = absurd (false≢true (sym t))
 
   -- a phase that has no steps
   resting : (p : ℕ) → (eqb p 0 || leb 5 p) ≡ not (active (phaseOf p))

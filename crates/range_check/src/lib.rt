@@ -58,15 +58,17 @@ fn voices(state: &[u16], last: u16) -> bool
     requires { ⌜ length (now state) ≡ stateLength ⌝ }
     ensures { λ r. ⌜ r ≡ (every isRow (partsOf (now (state .entry)) .rows) && everyOk ((last + 1) * 8) (stateOf (now (state .entry)) .voices) 24) ⌝ }
 {
+    if !waits(state) {
+        return false;
+    }
     at_most(state, layout::PHASES, 5)
         & (at_most(state, layout::LEVELS, 0x7FFF)
-            & (waits(state)
-                & (at_most(state, layout::COUNTERS, 0xFFF)
-                    & (at_most(state, layout::INDICES, 27)
-                        & (at_most(state, layout::UNITS, last)
-                            & (at_most(state, layout::LOADED, 1)
-                                & (at_most(state, layout::FLAGS, 0xFF)
-                                    & at_most(state, layout::ENDED, 1))))))))
+            & (at_most(state, layout::COUNTERS, 0xFFF)
+                & (at_most(state, layout::INDICES, 27)
+                    & (at_most(state, layout::UNITS, last)
+                        & (at_most(state, layout::LOADED, 1)
+                            & (at_most(state, layout::FLAGS, 0xFF)
+                                & at_most(state, layout::ENDED, 1)))))))
 }
 
 // The last unit of a sound RAM, which has one of two sizes.
