@@ -221,7 +221,7 @@ unfolding isTagged allOf
 tag-tested xs h = rw (eq-eqb (length xs) stateLength h, and-true (eqb (getD xs 1 0) version))
 
 -- a is the test of all but the voices, b that of the voices
-pub state-tested : (xs : List ℕ) (last : ℕ) (a : Bool) {size : ℕ} {z b : Bool} → isTagged xs ≡ true → size ≡ stateOf xs .choices .size → (sizeOk size ≡ true → (last + 1) * 8 ≡ size) → z ≡ sizeOk size
+state-tested : (xs : List ℕ) (last : ℕ) (a : Bool) {size : ℕ} {z b : Bool} → isTagged xs ≡ true → size ≡ stateOf xs .choices .size → (sizeOk size ≡ true → (last + 1) * 8 ≡ size) → z ≡ sizeOk size
     → (sizeOk size ≡ true → (a && everyOk size (stateOf xs .voices) 24) ≡ (isTail (partsOf xs .tail) && stateOk (stateOf xs)))
     → b ≡ (every isRow (partsOf xs .rows) && everyOk ((last + 1) * 8) (stateOf xs .voices) 24) → (z && (a && b)) ≡ isState xs
 unfolding isState isWellFormed areParts
@@ -233,3 +233,21 @@ state-tested xs last a {size} {z} {b} t e f ez ea eb = by z refl
         rw (eb, f k, t, and-assoc (every isRow (partsOf xs .rows)) (isTail (partsOf xs .tail)) (stateOk (stateOf xs)), ← ea k)
         (swap a (every isRow (partsOf xs .rows)) (everyOk size (stateOf xs .voices) 24))
     by false q = rw (← tested-size (stateOf xs) {z = z} (rw (← e) ez) (ap not q), and-false (isTagged xs && (every isRow (partsOf xs .rows) && isTail (partsOf xs .tail))))
+
+-- all but the voices is tested before them
+both-no : (z a b : Bool) → not (z && a) ≡ true → false ≡ (z && (a && b))
+both-no true false b t = refl
+both-no true true b t = absurd (false≢true t)
+both-no false a b t = refl
+
+both-yes : (z a b : Bool) → not (z && a) ≡ false → b ≡ (z && (a && b))
+both-yes true true b t = refl
+both-yes true false b t = absurd (false≢true (sym t))
+both-yes false a b t = absurd (false≢true (sym t))
+
+module _ (xs : List ℕ) (last : ℕ) (a : Bool) {size : ℕ} (z : Bool) (t : isTagged xs ≡ true) (e : size ≡ stateOf xs .choices .size) (f : sizeOk size ≡ true → (last + 1) * 8 ≡ size) (ez : z ≡ sizeOk size) (ea : sizeOk size ≡ true → (a && everyOk size (stateOf xs .voices) 24) ≡ (isTail (partsOf xs .tail) && stateOk (stateOf xs))) where
+  pub state-no : not (z && a) ≡ true → false ≡ isState xs
+  state-no n = both-no z a _ n ∙ state-tested xs last a t e f ez ea refl
+
+  pub state-yes : not (z && a) ≡ false → {b : Bool} → b ≡ (every isRow (partsOf xs .rows) && everyOk ((last + 1) * 8) (stateOf xs .voices) 24) → b ≡ isState xs
+  state-yes n {b} eb = both-yes z a b n ∙ state-tested xs last a t e f ez ea eb

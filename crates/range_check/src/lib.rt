@@ -113,5 +113,8 @@ pub fn check(state: &[u16]) -> bool
 {
     let size = layout::size(state);
     let last = last_unit(size);
-    size_ok(size) & (rest(state, size, last) & voices(state, last))
+    if !(size_ok(size) & rest(state, size, last)) {
+        return false;
+    }
+    voices(state, last)
 }
