@@ -3,17 +3,15 @@ ghost use mathlib.Core.Path.{_≡_};
 ghost use Prim.Native.Nat.{_+_, _≤_};
 ghost use lib.ListN.{length, set};
 ghost use Rattle.sessions.specs.Fill.{filledOf};
-use chip::State;
 use commands::Command;
 use libc::STDERR_FILENO;
 use libc::STDIN_FILENO;
 use libc::STDOUT_FILENO;
 use lines::Line;
 
-// The state, the place in the output up to which answers wait, whether the output still takes bytes, and whether no read has failed.
+// The place in the output up to which answers wait, whether the output still takes bytes, and whether no read has failed.
 pub struct Session {
     pub bench: bool,
-    pub state: State,
     pub place: usize,
     pub open: bool,
     pub readable: bool,
@@ -83,32 +81,21 @@ fn say(out: &mut [u8], s: Session, text: &[u8]) -> Session {
     placed(s, text::put_text(out, s.place, text))
 }
 
-fn changed(s: Session, state: State, place: usize) -> Session {
-    let mut t = s;
-    t.state = state;
-    t.place = place;
-    t
-}
-
 // ---- one command
 
-fn write(out: &mut [u8], s: Session, offset: u16, value: u16) -> Session {
-    let w = spu_registers::write(s.state, offset as u32, value);
-    let state = w.state;
-    let place = answers::write_answer(out, s.place, s.bench, w.number);
-    changed(s, state, place)
+fn write(state: &mut [u16], out: &mut [u8], s: Session, offset: u16, value: u16) -> Session {
+    let number = calls_state::tenonwhisk_write(state, offset as u32, value);
+    placed(s, answers::write_answer(out, s.place, s.bench, number))
 }
 
-fn read(out: &mut [u8], s: Session, offset: u16) -> Session {
-    let r = spu_registers::read(s.state, offset as u32);
+fn read(state: &[u16], out: &mut [u8], s: Session, offset: u16) -> Session {
+    let r = calls_state::tenonwhisk_read(state, offset as u32);
     placed(s, answers::was_read(out, s.place, r.number, r.value))
 }
 
-fn reset(out: &mut [u8], s: Session) -> Session {
-    let r = spu_registers::reset(s.state);
-    let state = r.state;
-    let place = answers::was_reset(out, s.place, r.number);
-    changed(s, state, place)
+fn reset(state: &mut [u16], out: &mut [u8], s: Session) -> Session {
+    let number = calls_state::tenonwhisk_reset(state);
+    placed(s, answers::was_reset(out, s.place, number))
 }
 
 fn least(a: usize, b: usize) -> usize
@@ -118,6 +105,7 @@ fn least(a: usize, b: usize) -> usize
 }
 
 fn inward(
+    state: &mut [u16],
     ram: &mut [u8],
     marks: &mut [u8],
     out: &mut [u8],
@@ -127,33 +115,46 @@ fn inward(
 ) -> Session {
     let values = commands::values(l);
     let n = least(count, 33);
-    let r = spu_transfer::transfer_in(s.state, ram, marks, &values[..n]);
-    let state = r.state;
-    let place = answers::inward_answer(out, s.place, s.bench, r.number, r.count, r.irq, r.doubt);
-    changed(s, state, place)
+    let r = calls_transfer::tenonwhisk_transfer_in(state, ram, marks, &values[..n]);
+    placed(
+        s,
+        answers::inward_answer(out, s.place, s.bench, r.number, r.count, r.irq, r.doubt),
+    )
 }
 
 fn outward_into(
+    state: &mut [u16],
     ram: &[u8],
     marks: &[u8],
     out: &mut [u8],
     s: Session,
     buffer: &mut [u16],
 ) -> Session {
-    let r = spu_transfer::transfer_out(s.state, ram, marks, buffer);
-    let state = r.state;
-    let place = answers_memory::moved_out(out, s.place, r.number, r.count, r.irq, r.doubt, buffer);
-    changed(s, state, place)
+    let r = calls_transfer::tenonwhisk_transfer_out(state, ram, marks, buffer);
+    placed(
+        s,
+        answers_memory::moved_out(out, s.place, r.number, r.count, r.irq, r.doubt, buffer),
+    )
 }
 
 // The buffer is lent holding A5A5h everywhere, and shown whole.
-fn outward(ram: &[u8], marks: &[u8], out: &mut [u8], s: Session, count: u32) -> Session {
+fn outward(
+    state: &mut [u16],
+    ram: &[u8],
+    marks: &[u8],
+    out: &mut [u8],
+    s: Session,
+    count: u32,
+) -> Session {
     let mut buffer = [0xA5A5u16; 64];
     let n = least(count as usize, 64);
-    outward_into(ram, marks, out, s, &mut buffer[..n])
+    outward_into(state, ram, marks, out, s, &mut buffer[..n])
 }
 
+// A tick raises the doubt that it reports, and keeps one raised before.
+
 fn tick(
+    state: &mut [u16],
     ram: &mut [u8],
     marks: &mut [u8],
     out: &mut [u8],
@@ -161,24 +162,25 @@ fn tick(
     left: i16,
     right: i16,
 ) -> Session {
-    let r = spu_tick::tick(s.state, ram, marks, left, right);
-    let state = r.state;
+    let before = calls_state::tenonwhisk_status(state);
+    let r = calls_ticks::tenonwhisk_tick(state, ram, marks, left, right);
     let place = answers_ticks::tick_answer(
         out,
         s.place,
         s.bench,
         r.number,
-        s.state.tick,
+        before.tick,
         r.left,
         r.right,
         r.irq,
         r.doubt,
-        state.control.doubt,
+        before.doubt | r.doubt,
     );
-    changed(s, state, place)
+    placed(s, place)
 }
 
 fn tick_floats(
+    state: &mut [u16],
     ram: &mut [u8],
     marks: &mut [u8],
     out: &mut [u8],
@@ -186,24 +188,24 @@ fn tick_floats(
     left: i16,
     right: i16,
 ) -> Session {
-    let r = spu_tick::tick_floats(s.state, ram, marks, left, right);
-    let state = r.state;
-    let pair = r.pair;
+    let before = calls_state::tenonwhisk_status(state);
+    let r = calls_ticks::tenonwhisk_tick_floats(state, ram, marks, left, right);
     let place = answers_ticks::ticked_floats(
         out,
         s.place,
         r.number,
-        s.state.tick,
-        pair.left,
-        pair.right,
+        before.tick,
+        r.left,
+        r.right,
         r.irq,
         r.doubt,
-        state.control.doubt,
+        before.doubt | r.doubt,
     );
-    changed(s, state, place)
+    placed(s, place)
 }
 
 fn one_tick(
+    state: &mut [u16],
     ram: &mut [u8],
     marks: &mut [u8],
     out: &mut [u8],
@@ -214,12 +216,13 @@ fn one_tick(
 ) -> Session {
     let t = roomy(out, s);
     if floats {
-        return tick_floats(ram, marks, out, t, left, right);
+        return tick_floats(state, ram, marks, out, t, left, right);
     }
-    tick(ram, marks, out, t, left, right)
+    tick(state, ram, marks, out, t, left, right)
 }
 
 fn ticks(
+    state: &mut [u16],
     ram: &mut [u8],
     marks: &mut [u8],
     out: &mut [u8],
@@ -232,15 +235,15 @@ fn ticks(
     let mut t = s;
     let mut k = 0u32;
     while k < count {
-        t = one_tick(ram, marks, out, t, floats, left, right);
+        t = one_tick(state, ram, marks, out, t, floats, left, right);
         k += 1;
     }
     t
 }
 
-fn view(ram: &[u8], out: &mut [u8], s: Session, address: u32) -> Session {
-    let number = spu_view::view_number(s.state, ram, address);
-    let bytes = spu_view::block_view(s.state, ram, address);
+fn view(state: &[u16], ram: &[u8], out: &mut [u8], s: Session, address: u32) -> Session {
+    let number = calls_state::tenonwhisk_view_number(state, ram, address);
+    let bytes = calls_state::block_view(state, ram, address);
     placed(s, answers_memory::viewed(out, s.place, number, bytes))
 }
 
@@ -264,6 +267,7 @@ fn fill(ram: &mut [u8], from: u32, n: u32, byte: u8)
 }
 
 fn obey(
+    state: &mut [u16],
     ram: &mut [u8],
     marks: &mut [u8],
     out: &mut [u8],
@@ -274,18 +278,18 @@ fn obey(
     match c {
         Command::Bad => say(out, s, b"bad line\n"),
         Command::Quiet => s,
-        Command::Write { offset, value } => write(out, s, offset, value),
-        Command::Read { offset } => read(out, s, offset),
-        Command::Inward { count } => inward(ram, marks, out, s, l, count),
-        Command::Outward { count } => outward(ram, marks, out, s, count),
+        Command::Write { offset, value } => write(state, out, s, offset, value),
+        Command::Read { offset } => read(state, out, s, offset),
+        Command::Inward { count } => inward(state, ram, marks, out, s, l, count),
+        Command::Outward { count } => outward(state, ram, marks, out, s, count),
         Command::Tick {
             floats,
             count,
             left,
             right,
-        } => { ticks(ram, marks, out, s, floats, count, left, right) }
-        Command::View { address } => view(ram, out, s, address),
-        Command::Reset => reset(out, s),
+        } => { ticks(state, ram, marks, out, s, floats, count, left, right) }
+        Command::View { address } => view(state, ram, out, s, address),
+        Command::Reset => reset(state, out, s),
         Command::Ram { address, count } => {
             placed(s, answers_memory::ram(out, s.place, address, count, ram))
         }
@@ -308,28 +312,44 @@ fn obey(
 
 // ---- lines
 
-fn command_of(s: Session, l: Line) -> Command {
+fn command_of(state: &[u16], s: Session, l: Line) -> Command {
     if s.bench {
         return commands_word::bench(l);
     }
-    commands_word::replay(s.state.choices.size as u64, l)
+    let t = calls_state::tenonwhisk_status(state);
+    commands_word::replay(t.size as u64, l)
 }
 
 // The answer to a line that has ended.
-fn answer(ram: &mut [u8], marks: &mut [u8], out: &mut [u8], s: Session, line: Line) -> Session {
+fn answer(
+    state: &mut [u16],
+    ram: &mut [u8],
+    marks: &mut [u8],
+    out: &mut [u8],
+    s: Session,
+    line: Line,
+) -> Session {
     let l = lines_scan::finish(line);
     let t = roomy(out, s);
-    obey(ram, marks, out, t, l, command_of(t, l))
+    let c = command_of(state, t, l);
+    obey(state, ram, marks, out, t, l, c)
 }
 
 // What a piece of the input holds of a line, from an index on.
-fn step(ram: &mut [u8], marks: &mut [u8], out: &mut [u8], t: Taken, input: &[u8]) -> Taken {
+fn step(
+    state: &mut [u16],
+    ram: &mut [u8],
+    marks: &mut [u8],
+    out: &mut [u8],
+    t: Taken,
+    input: &[u8],
+) -> Taken {
     let r = t.reading;
     let session = r.session;
     let found = lines_scan::scan(r.line, input, t.at);
     let line = found.line;
     if found.ended {
-        let next = answer(ram, marks, out, session, line);
+        let next = answer(state, ram, marks, out, session, line);
         let reading = unread(next);
         return Taken {
             reading,
@@ -347,14 +367,21 @@ fn step(ram: &mut [u8], marks: &mut [u8], out: &mut [u8], t: Taken, input: &[u8]
     }
 }
 
-fn take(ram: &mut [u8], marks: &mut [u8], out: &mut [u8], r: Reading, input: &[u8]) -> Reading {
+fn take(
+    state: &mut [u16],
+    ram: &mut [u8],
+    marks: &mut [u8],
+    out: &mut [u8],
+    r: Reading,
+    input: &[u8],
+) -> Reading {
     let mut t = Taken { reading: r, at: 0 };
     let mut most = input.len();
     while most > 0 {
         if input.len() <= t.at {
             return t.reading;
         }
-        t = step(ram, marks, out, t, input);
+        t = step(state, ram, marks, out, t, input);
         most -= 1;
     }
     t.reading
@@ -374,6 +401,7 @@ fn stopped(r: Reading, failed: bool) -> Reading {
 
 // One piece of the input; none is the end.
 fn piece(
+    state: &mut [u16],
     ram: &mut [u8],
     marks: &mut [u8],
     out: &mut [u8],
@@ -385,11 +413,12 @@ fn piece(
     if n == 0 {
         return stopped(r, got < 0);
     }
-    take(ram, marks, out, r, &input[..n])
+    take(state, ram, marks, out, r, &input[..n])
 }
 
 // Nothing says that the input ends, so the pieces are counted down, from a number that no run uses up.
 fn pieces(
+    state: &mut [u16],
     ram: &mut [u8],
     marks: &mut [u8],
     out: &mut [u8],
@@ -402,49 +431,50 @@ fn pieces(
         if !r.more {
             return r;
         }
-        r = piece(ram, marks, out, r, input);
+        r = piece(state, ram, marks, out, r, input);
         turns -= 1;
     }
     r
 }
 
 // A last piece without LF is a line if it is not empty, but not where a read failed.
-fn last(ram: &mut [u8], marks: &mut [u8], out: &mut [u8], r: Reading) -> Session {
+fn last(
+    state: &mut [u16],
+    ram: &mut [u8],
+    marks: &mut [u8],
+    out: &mut [u8],
+    r: Reading,
+) -> Session {
     let line = r.line;
     let s = r.session;
     if line.begun & s.readable {
-        return answer(ram, marks, out, s, line);
+        return answer(state, ram, marks, out, s, line);
     }
     s
 }
 
-fn all_lines(ram: &mut [u8], marks: &mut [u8], out: &mut [u8], s: Session) -> Session {
+fn all_lines(
+    state: &mut [u16],
+    ram: &mut [u8],
+    marks: &mut [u8],
+    out: &mut [u8],
+    s: Session,
+) -> Session {
     let mut input = io::large_buffer();
-    let r = pieces(ram, marks, out, s, &mut input);
-    last(ram, marks, out, r)
-}
-
-fn begun(bench: bool, size: u32, place: usize) -> Session {
-    let m = spu_registers::make(size);
-    let state = m.state;
-    Session {
-        bench,
-        state,
-        place,
-        open: true,
-        readable: true,
-    }
+    let r = pieces(state, ram, marks, out, s, &mut input);
+    last(state, ram, marks, out, r)
 }
 
 // ---- the programs
 
 // The last line. After a failed read there is none, so that what was answered does not look whole.
-fn end(out: &mut [u8], s: Session) -> Session {
+fn end(state: &[u16], out: &mut [u8], s: Session) -> Session {
     if !s.readable {
         return s;
     }
     let t = roomy(out, s);
-    placed(t, answers::ended(out, t.place, t.state.control.doubt))
+    let now = calls_state::tenonwhisk_status(state);
+    placed(t, answers::ended(out, t.place, now.doubt))
 }
 
 fn complain(name: &[u8], words: &[u8]) {
@@ -464,10 +494,18 @@ fn finish(name: &[u8], out: &[u8], s: Session) {
 }
 
 fn run(name: &[u8], ram: &mut [u8], marks: &mut [u8], bench: bool, size: u32) {
+    let mut state = [0u16; 1284];
     let mut out = io::large_buffer();
+    calls_state::tenonwhisk_make(size, &mut state);
     let place = answers::title(&mut out, 0, name, size);
-    let s = all_lines(ram, marks, &mut out, begun(bench, size, place));
-    let t = end(&mut out, s);
+    let begun = Session {
+        bench,
+        place,
+        open: true,
+        readable: true,
+    };
+    let s = all_lines(&mut state, ram, marks, &mut out, begun);
+    let t = end(&state, &mut out, s);
     finish(name, &out, t);
 }
 
