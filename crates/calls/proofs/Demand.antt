@@ -11,11 +11,11 @@ use Rattle.soundram.specs.Memory.{marked}
 use Rattle.soundram.specs.Program.{anyUnmarked}
 use Rattle.soundram.specs.TwoRuns.{AgreeAt}
 use Rattle.soundram.specs.Calls.{Outcome, outcome, still, log, Indistinct, both-end, both-sure, both-doubt}
-use Rattle.chip.specs.declared.State.{State}
+use Rattle.chip.specs.State.{State}
 use Rattle.layout.specs.Layout.{stateOf, bufferOf, isWellFormed}
 use Rattle.spu.specs.Step.{Call, Answer, numberOf, refusedOf, acceptedOf, stepOf, chip, outcomeOf}
 use Rattle.spu.proofs.Demand as spu
-use Rattle.calls.specs.Kept.{numberIn, keptIn, keptNot, keptOf, Keeps}
+use Rattle.calls.specs.Kept.{numberIn, keptNot, keptOf, Keeps}
 use Rattle.calls.specs.Lists.{Gave, none, next, doubtIn, standing}
 use Rattle.calls.proofs.Kept.{form-number, accepted-state, state-formed}
 

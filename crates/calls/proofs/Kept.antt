@@ -1,29 +1,28 @@
 -- Calls on a buffer, from the numbers that they give and what the calls on its state leave. Assumes nothing.
-use mathlib.Core.Path.{_≡_, refl, sym, ap, _∙_}
-use mathlib.Core.Bool.{Bool, true, false, cond, not, _&&_, _||_, false≢true}
+use mathlib.Core.Path.{_≡_, refl, sym, _∙_}
+use mathlib.Core.Bool.{Bool, true, false, cond, not, _&&_, _||_}
 use mathlib.Core.List.{List, [], _∷_}
-use Prim.Native.Nat.{ℕ, zero, suc, _/_}
+use Prim.Native.Nat.{ℕ, _/_}
 use native.Mathlib.Omega.{arith}
-use borrow.Author.Tests.{eqb-true, eq-eqb, ne-eqb, not-true, not-false}
+use borrow.Author.Tests.{eq-eqb, ne-eqb, not-true, not-false}
 use lib.Dec.{eqb}
 use lib.ListN.{length}
 use Rattle.fixed.proofs.Bools.{and-first, and-rest}
 use Rattle.soundram.specs.declared.Watch.{Watch}
 use Rattle.soundram.specs.Address.{Lent}
 use Rattle.soundram.specs.Program.{Prog, memOf, Does}
-use Rattle.soundram.specs.Calls.{Reply, Doing, still, works, Outcome, outcome}
-use Rattle.chip.specs.declared.State.{State}
-use Rattle.chip.specs.State.{stateOk, watchOf, watchedOf}
+use Rattle.soundram.specs.Calls.{Reply, still, works, outcome}
+use Rattle.chip.specs.State.{State, stateOk, watchOf, watchedOf}
 use Rattle.chip.specs.Range.{InRange}
-use Rattle.layout.specs.Layout.{stateOf, bufferOf, isTagged, isWellFormed, isState, Formed, Holds, Halfwords}
+use Rattle.layout.specs.Layout.{stateOf, isTagged, isWellFormed, isState, Holds, Halfwords}
 use Rattle.layout.proofs.Laws.{form-tagged, formed, registers-count, voices-count}
 use Rattle.layout.proofs.Encoding.{holds-buffer}
-use Rattle.spu.specs.Step.{Call, Answer, Test, test, firstOf, outside, lentTests, testsOf, numberOf, refusedOf, acceptedOf, stepOf, chip, outcomeOf, Leaves}
+use Rattle.spu.specs.Step.{Call, Answer, Test, firstOf, outside, lentTests, testsOf, numberOf, refusedOf, acceptedOf, stepOf, outcomeOf, Leaves}
 use Rattle.spu.proofs.Range.{tests-good, passed-first, passed-rest, stays-in-range}
 use Rattle.spu.proofs.Lent.{lent-all, leaves-still, leaves-works}
 use Rattle.spu.proofs.Numbers as numbers
 use Rattle.spu.proofs.Numbers.{here, later, lent-refused, lent-passed, lent-1, lent-2, lent-0}
-use Rattle.calls.specs.Kept.{testedOf, numberIn, keptIn, keptNot, keptOf, Keeps}
+use Rattle.calls.specs.Kept.{testedOf, numberIn, keptOf, Keeps}
 
 -- ---- the number of a call on a buffer, and of the call on the state that stands in it
 

@@ -12,8 +12,8 @@ use Rattle.spu.specs.Step.{Call, view, Answer, Test, test, firstOf, testsOf, re
 
 -- ---- numbers
 
--- of these tests, for a buffer of a state's length with its tag; 2 for any other. Number 1 compares lengths with the L that stands in the buffer, whatever it is, and
--- goes before number 2, "a state field outside its range", which every other buffer than a state's is given
+-- the first of these tests that applies, for a buffer with a state's length and tag; 2 for any other. Number 1 compares lengths with the L that stands in the buffer, whatever it is, and
+-- goes before number 2, "a state field outside its range", which any buffer that is not a state's gets
 abbrev pub testedOf : List ℕ → List Test → ℕ
 testedOf xs ts = cond (isTagged xs) (firstOf ts) 2
 

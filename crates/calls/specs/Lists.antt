@@ -3,7 +3,7 @@ use mathlib.Core.Bool.{Bool, _&&_}
 use mathlib.Core.List.{List, [], _∷_}
 use Prim.Native.Nat.{ℕ}
 use Rattle.soundram.specs.Calls.{Outcome}
-use Rattle.chip.specs.declared.State.{State}
+use Rattle.chip.specs.State.{State}
 use Rattle.layout.specs.Layout.{stateOf, isWellFormed}
 use Rattle.spu.specs.Step.{Call, Answer}
 use Rattle.calls.specs.Kept.{keptOf, Keeps}

@@ -19,7 +19,7 @@ pub fn state_number(state: &[u16]) -> u8
     0
 }
 
-// 1 or 2, or 0 where neither applies, of the lengths of what is lent.
+// 1 or 2, or 0 if neither applies. ram and marks are the lengths of what is lent.
 pub fn lent_number(state: &[u16], ram: usize, marks: usize) -> u8
     ensures { λ r. ⌜ r ≡ testedOf (now (state .entry)) (lentTests (isState (now (state .entry))) (stateOf (now (state .entry))) ram marks []) ⌝ }
 {

@@ -6,16 +6,15 @@ use Prim.Native.Nat.{ℕ}
 use borrow.Author.Tests.{not-false, ne-eqb, eq-eqb}
 use lib.ListN.{length}
 use Rattle.soundram.specs.Address.{Sized}
-use Rattle.soundram.specs.Calls.{Doing, still}
+use Rattle.soundram.specs.Calls.{still}
 use Rattle.registers.specs.Offsets.{listed, readOnly, undocumented, notWritten, notRead}
-use Rattle.chip.specs.declared.State.{State}
-use Rattle.chip.specs.State.{freshOf, sizeOk}
+use Rattle.chip.specs.State.{State, freshOf, sizeOk}
 use Rattle.chip.proofs.Tests.{ok-sized}
 use Rattle.layout.specs.Layout.{stateLength, stateOf, isState, Formed, Holds, Halfwords}
 use Rattle.layout.proofs.Laws.{self-holds}
 use Rattle.layout.proofs.Encoding.{holds-buffer}
 use Rattle.layout.proofs.Ranges.{state-formed}
-use Rattle.ports.specs.Registers.{writeOf, readOf}
+use Rattle.chip.specs.Registers.{writeOf, readOf}
 use Rattle.spu.specs.Step.{Call, write, read, reset, status, Answer, written, value, made, looked, Test, test, firstOf, outside, numberOf, refusedOf, acceptedOf}
 use Rattle.spu.proofs.Range.{passed-first, passed-rest, accepted-listed}
 use Rattle.spu.proofs.Numbers.{here, later, none}

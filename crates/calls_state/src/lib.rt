@@ -1,4 +1,4 @@
-// Calls on a state in the buffer that a caller lends: made, reset, looked at, its registers written and read; the block view.
+// Calls on a lent state: make, reset, status, register writes and reads, and the block view.
 ghost use mathlib.Core.Path.{_≡_};
 ghost use mathlib.Core.Bool.{false, cond};
 ghost use mathlib.Core.List.{List};
@@ -160,7 +160,7 @@ pub extern "C" fn tenonwhisk_view_number(state: &[u16], ram: &[u8], address: u32
     0
 }
 
-// The sixteen bytes of the block there, in the caller's own RAM; none where the view is refused.
+// The sixteen bytes of the block there, in the caller's own RAM; none if the view is refused.
 pub fn block_view<'a>(state: &[u16], ram: &'a [u8], address: u32) -> &'a [u8]
     ensures { λ r. ⌜ now r ≡ viewOf (now (state .entry)) (now (ram .entry)) address ⌝ }
 {

@@ -1,6 +1,6 @@
 -- Ticks and runs with their samples as floats. Assumes nothing.
 use mathlib.Core.Path.{_≡_, refl, sym, ap, _∙_}
-use mathlib.Core.Bool.{Bool, true, false, cond, not}
+use mathlib.Core.Bool.{Bool, true, false, cond}
 use mathlib.Core.List.{List, [], _∷_, _++_, map}
 use Prim.Native.Nat.{ℕ, _+_, _/_, _≤_, _<_}
 use native.Mathlib.Omega.{arith}
@@ -16,12 +16,11 @@ use Rattle.stereo.specs.Float.{floatOf, stereoOf}
 use Rattle.soundram.specs.Program.{done, memOf, run}
 use Rattle.soundram.specs.Calls.{Reply, still, Outcome, workedOf, outcome}
 use Rattle.soundram.proofs.Programs.{run-bind}
-use Rattle.chip.specs.declared.State.{State}
-use Rattle.chip.specs.State.{stateOk, watchOf}
-use Rattle.layout.specs.Layout.{stateOf, bufferOf, isState, Holds, Halfwords}
+use Rattle.chip.specs.State.{State, stateOk, watchOf}
+use Rattle.layout.specs.Layout.{stateOf, bufferOf, isState, Halfwords}
 use Rattle.tick.specs.declared.Pair.{Pair}
 use Rattle.tick.specs.Tick.{tickOf}
-use Rattle.tick_runs.specs.Run.{ticksOf, Runs}
+use Rattle.tick_runs.specs.Run.{Runs}
 use Rattle.spu.specs.Step.{tick, tickFloats, runFloats, Answer, written, value, moved, movedOut, pair, floats, ran, ranFloats, made, viewed, looked, Test, test, firstOf, lentTests, runTests, floatsTests, numberOf, refusedOf, acceptedOf, stepOf, chip, outcomeOf}
 use Rattle.spu.proofs.Numbers.{here, later, none}
 use Rattle.spu.proofs.Lent.{leaves-repeats}

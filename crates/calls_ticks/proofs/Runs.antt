@@ -1,7 +1,7 @@
 -- Ticks and runs of them on a buffer, from the numbers that they give and a run's promise. Assumes nothing.
-use mathlib.Core.Path.{_≡_, refl, sym, ap, _∙_}
+use mathlib.Core.Path.{_≡_, refl, sym, _∙_}
 use mathlib.Core.Bool.{Bool, true, false, cond, _&&_, _||_, not}
-use mathlib.Core.List.{List, [], _∷_, _++_, map}
+use mathlib.Core.List.{List, []}
 use Prim.Native.Nat.{ℕ, _/_, _%_}
 use native.Mathlib.Omega.{arith}
 use lib.Dec.{eqb}
@@ -9,17 +9,16 @@ use lib.ListN.{length, getD, set, length-set}
 use lib.Seq.{getD-set-same, getD-set-other}
 use lib.IntN.{ℤ, pos}
 use Rattle.soundram.specs.Program.{memOf, run, Result, Does, trace}
-use Rattle.soundram.specs.Calls.{Reply, Times, startOf, timesOf}
+use Rattle.soundram.specs.Calls.{Reply, startOf}
 use Rattle.soundram.proofs.Programs.{does-done, does-bind}
 use Rattle.soundram.proofs.Times.{times-none, times-more, time-does}
-use Rattle.chip.specs.declared.State.{State}
-use Rattle.chip.specs.State.{watchOf, watchedOf}
-use Rattle.layout.specs.Layout.{stateOf, isState, Holds, Halfwords}
+use Rattle.chip.specs.State.{State, watchOf, watchedOf}
+use Rattle.layout.specs.Layout.{stateOf, isState, Halfwords}
 use Rattle.tick.specs.declared.Pair.{Pair}
 use Rattle.tick.specs.Tick.{tickOf}
 use Rattle.tick_runs.specs.Run.{ticksOf, Runs}
 use Rattle.spu.specs.Step as spu
-use Rattle.spu.specs.Step.{tick, pair, ran, Test, test, firstOf, lentTests, runTests, refusedOf, acceptedOf, tickInto, chip, Leaves}
+use Rattle.spu.specs.Step.{tick, pair, ran, lentTests, runTests, refusedOf, acceptedOf, tickInto, chip}
 use Rattle.spu.proofs.Numbers.{here, later, none, lent-refused, lent-passed}
 use Rattle.spu.proofs.Lent.{leaves-works, leaves-repeats}
 use Rattle.spu.proofs.Runs.{into-does}

@@ -1,4 +1,4 @@
-// Calls on a state in the buffer that a caller lends: one tick, and many.
+// Calls on a lent state: one tick, and many.
 ghost use mathlib.Core.Path.{_≡_};
 ghost use mathlib.Core.List.{map};
 ghost use lib.ListN.{length};
@@ -25,7 +25,7 @@ pub struct TickedFloats {
     pub right: f32,
 }
 
-// How many ticks there were, and which of them raised the interrupt and the doubt, or that number where none did.
+// How many ticks there were, and which of them raised the interrupt and which the doubt; the number of ticks if none did.
 #[repr(C)]
 pub struct Ran {
     pub number: u8,
@@ -34,7 +34,7 @@ pub struct Ran {
     pub doubt: usize,
 }
 
-// One tick, of the raw CD pair.
+// One tick, with a raw pair from the CD.
 #[no_mangle]
 pub extern "C" fn tenonwhisk_tick(
     state: &mut [u16],
@@ -89,7 +89,7 @@ pub extern "C" fn tenonwhisk_tick_floats(
     }
 }
 
-// 1, 2 or 25, or 0 where none applies, of the lengths of what is lent.
+// 1, 2 or 25, or 0 if none applies. The last four are the lengths of what is lent.
 fn run_number(state: &[u16], ram: usize, marks: usize, cd: usize, out: usize) -> u8
     ensures { λ r. ⌜ r ≡ testedOf (now (state .entry)) (lentTests (isState (now (state .entry))) (stateOf (now (state .entry))) ram marks (runTests cd out)) ⌝ }
 {
@@ -114,7 +114,7 @@ fn refused(number: u8) -> Ran
     }
 }
 
-// A tick for each pair of the buffer, of as many pairs of the CD, or of silence if the CD's buffer is empty.
+// One tick for each pair of the buffer out. The CD gives as many pairs, or silence if its buffer is empty.
 #[no_mangle]
 pub extern "C" fn tenonwhisk_run(
     state: &mut [u16],

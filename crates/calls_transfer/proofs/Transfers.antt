@@ -1,7 +1,7 @@
 -- Transfers on a buffer, from their numbers and what they do. Assumes nothing.
 use mathlib.Core.Path.{_≡_, refl, sym, ap, _∙_}
-use mathlib.Core.Bool.{Bool, true, false, _||_, _&&_, not}
-use mathlib.Core.List.{List, [], _∷_}
+use mathlib.Core.Bool.{Bool, true, false, _&&_, not}
+use mathlib.Core.List.{List}
 use Prim.Native.Nat.{ℕ, _-_, _%_, _<_}
 use native.Mathlib.Omega.{arith}
 use borrow.Author.Tests.{ltb-false}
@@ -14,13 +14,12 @@ use Rattle.soundram.specs.declared.ByteAddress.{ByteAddress}
 use Rattle.soundram.specs.declared.Watch.{Watch}
 use Rattle.soundram.specs.Program.{memOf, Does}
 use Rattle.soundram.proofs.Programs.{does-done, does-bind}
-use Rattle.chip.specs.declared.State.{State}
-use Rattle.chip.specs.State.{withTransfer, watchOf, watchedOf}
+use Rattle.chip.specs.State.{State, withTransfer, watchOf, watchedOf}
 use Rattle.chip.proofs.Tests.{sized}
 use Rattle.transfer.specs.Transfer.{inwardOf, outwardOf}
 use Rattle.layout.specs.Layout.{stateOf, isState, Formed, Holds, Halfwords}
 use Rattle.layout.proofs.Ranges.{state-formed, state-in-range}
-use Rattle.spu.specs.Step.{transferIn, transferOut, moved, movedOut, Test, test, firstOf, notInward, notOutward, lentTests, moveTests, refusedOf, acceptedOf, badCount}
+use Rattle.spu.specs.Step.{transferIn, transferOut, moved, movedOut, Test, firstOf, notInward, notOutward, lentTests, moveTests, refusedOf, acceptedOf, badCount}
 use Rattle.spu.proofs.Range.{passed-first, passed-rest}
 use Rattle.spu.proofs.Numbers.{here, later, none}
 use Rattle.calls.specs.Kept.{testedOf, numberIn, Keeps}

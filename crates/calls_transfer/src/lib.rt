@@ -1,4 +1,4 @@
-// Calls on a state in the buffer that a caller lends: halfwords moved into and out of sound RAM.
+// Calls on a lent state: halfwords moved into and out of sound RAM.
 ghost use mathlib.Core.Path.{_≡_};
 ghost use mathlib.Core.Bool.{false, _&&_, not};
 ghost use Prim.Native.Nat.{_%_};
@@ -25,7 +25,7 @@ fn bad_count(n: usize) -> bool
     (n == 0) | (32 < n)
 }
 
-// Whether the transfer mode is another's.
+// Whether the transfer mode is another.
 
 fn not_inward(state: &[u16]) -> bool
     requires { ⌜ length (now state) ≡ stateLength ⌝ }
@@ -44,7 +44,7 @@ fn not_outward(state: &[u16]) -> bool
     c.applied / 16 % 4 != 3
 }
 
-// 6 or 7, or 0 where neither applies.
+// 6 or 7, or 0 if neither applies.
 fn move_number(wrong: bool, count: usize) -> u8
     ensures { λ r. ⌜ r ≡ firstOf (moveTests wrong count) ⌝ }
 {
@@ -57,7 +57,7 @@ fn move_number(wrong: bool, count: usize) -> u8
     0
 }
 
-// The number of a transfer, of the lengths of what is lent and of what moves.
+// The number of a transfer. ram, marks and count are the lengths of what is lent and of what moves.
 
 fn in_number(state: &[u16], ram: usize, marks: usize, count: usize) -> u8
     ensures { λ r. ⌜ r ≡ testedOf (now (state .entry)) (lentTests (isState (now (state .entry))) (stateOf (now (state .entry))) ram marks (moveTests (notInward (stateOf (now (state .entry)))) count)) ⌝ }
@@ -90,7 +90,7 @@ fn refused(number: u8) -> Moved
     }
 }
 
-// The address and what was watched put in place, of count halfwords moved; w was watched before.
+// Puts the address and what was watched in place once count halfwords have moved; w was watched before.
 fn accepted(state: &mut [u16], count: u32, w: Watch, m: Ended) -> Moved
     requires { ⌜ Formed (now state) × (m .address .0 % 2 ≡ 0) ⌝ }
     ensures { λ r. ⌜ (r ≡ record { number = 0; irq = m .watch .latch && not (w .latch); doubt = m .watch .doubt && not (w .doubt); count = count }) × Holds (now (state .exit)) (watchedOf (withTransfer (stateOf (now (state .entry))) (m .address)) (m .watch)) × Halfwords (now (state .exit)) ⌝ }

@@ -1,3 +1,5 @@
 pub mod Tests
 pub mod Ranges
-pub mod Parts
+pub mod Registers
+pub mod Writes
+pub mod WriteRanges

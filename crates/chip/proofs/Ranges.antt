@@ -12,8 +12,7 @@ use Rattle.registers.specs.Map.{registerAt}
 use Rattle.voice.specs.Voice.{fresh}
 use Rattle.voice.proofs.Range.{fresh-in}
 use Rattle.voices.specs.Voices.{pastEnd}
-use Rattle.chip.specs.declared.State.{State}
-use Rattle.chip.specs.State.{withTransfer, freshOf, sizeOk}
+use Rattle.chip.specs.State.{State, withTransfer, freshOf, sizeOk}
 use Rattle.chip.specs.Range.{TransferIn, InRange}
 use Rattle.chip.proofs.Tests.{sized}
 

@@ -6,10 +6,9 @@ use lib.ListN.{length}
 use Rattle.noise.specs.Noise as noise
 use Rattle.soundram.specs.declared.ByteAddress.{ByteAddress}
 use Rattle.voices.specs.Voices.{AllIn}
-use Rattle.chip.specs.declared.State.{State}
-use Rattle.chip.specs.State.{sizeOk, baseOf}
+use Rattle.chip.specs.State.{State, sizeOk, baseOf}
 
--- what a state's type fixes
+-- as many registers and voices as the chip has
 pub record Shaped (s : State) : Type 0 where
   pub regs : length (s .regs) ≡ 256
   pub voices : length (s .voices) ≡ 24

@@ -1,4 +1,4 @@
--- The state: fresh, and in range. Assumes nothing.
+-- The state: what it is made of, fresh, and in range. Assumes nothing.
 use mathlib.Core.Bool.{Bool, true, false, _&&_, _||_, not}
 use mathlib.Core.List.{List, [], _∷_}
 use Prim.Native.Nat.{ℕ, _-_, _%_}
@@ -12,12 +12,31 @@ use Rattle.soundram.specs.Address.{addressOf, halfwordOf}
 use Rattle.fixed.specs.Bits.{bit}
 use Rattle.fixed.specs.Tests.{allBelow}
 use Rattle.registers.specs.Map.{registerAt}
+use Rattle.noise.specs.declared.Noise.{Noise}
 use Rattle.voice.specs.declared.Voice.{Voice}
 use Rattle.voice.specs.Voice.{fresh}
 use Rattle.voices.specs.Voices.{pastEnd}
 use Rattle.chip.specs.declared.Control.{Control}
 use Rattle.chip.specs.declared.Reverb.{Reverb}
-use Rattle.chip.specs.declared.State.{State}
+
+-- ---- what a state is made of
+
+-- what is fixed when a state is made: L, in bytes
+pub record Choices : Type 0 where
+  pub size : ℕ
+
+-- the registers as written, the voices, the noise, the place in the capture areas, the reverb, the transfer address, and the tick number; the code has it
+-- as a buffer of halfwords (`layout`)
+pub record State : Type 0 where
+  pub choices : Choices
+  pub regs : List ℕ
+  pub voices : List Voice
+  pub noise : Noise
+  pub control : Control
+  pub capture : ℕ
+  pub reverb : Reverb
+  pub transfer : ByteAddress
+  pub tick : ℕ
 
 -- ---- one place for each part that a rule changes
 

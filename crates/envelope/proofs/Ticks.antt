@@ -2,10 +2,9 @@
 use mathlib.Core.Path.{_≡_, refl, sym, _∙_}
 use mathlib.Core.Bool.{Bool, true, false, not, _&&_, false≢true}
 use Prim.Native.Nat.{ℕ, _-_, _≤_, _<_}
-use native.Mathlib.Omega.{arith}
 use lib.Dec.{ltb}
 use lib.IntN.{ℤ, pos, _+ℤ_}
-use borrow.Author.Tests.{lt-ltb, le-ltb, ltb-true, not-true, not-false}
+use borrow.Author.Tests.{lt-ltb, le-ltb, not-true, not-false}
 use Rattle.envelope.specs.declared.Phase.{Phase}
 use Rattle.envelope.specs.declared.Rate.{Rate}
 use Rattle.envelope.specs.declared.Envelope.{Envelope}
@@ -46,9 +45,6 @@ module _ (e : Envelope) {b : Bool} (a : b ≡ (active (e .phase) && ltb 1 (e .wa
   parts : (p q : Bool) → (p && q) ≡ true → (p ≡ true) × (q ≡ true)
   parts true q f = (refl, f)
   parts false q f = absurd (false≢true f)
-
-  pub waits-some : 1 ≤ e .wait
-  waits-some = let l = ltb-true 1 (e .wait) (parts (active (e .phase)) (ltb 1 (e .wait)) (sym a ∙ t) .1) in omega arith
 
   pub waits-ticked : (low high : ℕ) → record { phase = e .phase; level = e .level; wait = e .wait - 1 } ≡ tickedOf e low high
   unfolding tickedOf

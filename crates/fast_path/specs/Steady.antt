@@ -1,4 +1,4 @@
--- What the registers say of a voice in most ticks. Assumes nothing.
+-- What the registers say about a voice in most ticks. Assumes nothing.
 use mathlib.Core.Path.{_≡_}
 use mathlib.Core.Bool.{cond, false, _||_}
 use mathlib.Core.List.{List}
@@ -9,13 +9,13 @@ use Rattle.pitch.specs.Pitch.{stepOf}
 use Rattle.voice.specs.declared.Settings.{Settings}
 use Rattle.voices.specs.Voices.{settingsOf}
 
--- of the settings of a voice, t has what every tick looks at as s has it; its envelope's rates may be others
+-- t agrees with a voice's settings s in all that every tick looks at; its envelope's rates may differ
 pub record Toned (s t : Settings) : Type 0 where
   pub pitch : t .pitch ≡ s .pitch
   pub modulated : t .modulated ≡ s .modulated
   pub noise : t .noise ≡ s .noise
 
--- the pitch step of a voice that plays its samples and is not modulated, whatever the voice below gives; FFFFh, which is no step, of any other
+-- the pitch step of a voice that plays its samples and is not modulated, whatever the voice below gives; FFFFh, which is no step, for any other voice
 unfoldable pub steadyOf : Settings → ℕ
 steadyOf s = cond (s .noise || s .modulated) 0xFFFF (stepOf (s .pitch) false (pos 0))
 

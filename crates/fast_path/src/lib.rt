@@ -19,7 +19,7 @@ pub struct Stayed {
     pub amplitude: i16,
 }
 
-// Of voice n's settings what every tick looks at; its envelope's rates are left out.
+// What every tick looks at in voice n's settings; the rates of its envelope are left out.
 fn tone(regs: &[u16; 256], pmon: u32, non: u32, n: usize) -> Settings
     requires { ⌜ (n < 24) × Modulated (now regs) pmon × Flags (now regs) 0x194 non ⌝ }
     ensures { λ r. ⌜ Toned (settingsOf (now (regs .entry)) n) r ⌝ }
@@ -33,7 +33,7 @@ fn tone(regs: &[u16; 256], pmon: u32, non: u32, n: usize) -> Settings
     }
 }
 
-// The pitch step of a voice that plays its samples and is not modulated: it holds as long as the registers do. FFFFh of any other voice.
+// The pitch step of a voice that plays its samples and is not modulated: it holds as long as the registers do. FFFFh stands for any other voice.
 fn steady(s: Settings) -> u16
     ensures { λ r. ⌜ r ≡ steadyOf s ⌝ }
 {
@@ -43,7 +43,7 @@ fn steady(s: Settings) -> u16
     pitch::step(s.pitch, false, 0)
 }
 
-// The same of all voices.
+// The same for all voices.
 pub fn steps(regs: &[u16; 256], pmon: u32, non: u32) -> [u16; 24]
     requires { ⌜ Modulated (now regs) pmon × Flags (now regs) 0x194 non ⌝ }
     ensures { λ r. ⌜ Steps (now (regs .entry)) r ⌝ }

@@ -4,15 +4,15 @@ use mathlib.Core.Bool.{Bool, true, false}
 use mathlib.Core.List.{List, [], _∷_, _++_}
 use Prim.Native.Nat.{ℕ, zero, suc, _+_, _-_, _*_, _/_, _%_, _≤_, _<_}
 use native.Mathlib.Omega.{arith}
-use borrow.Author.Tests.{lt-ltb, le-ltb, ltb-true, ltb-false, eqb-true, leb-true, eqb-false}
-use lib.Dec.{ltb, eqb}
-use lib.ListN.{length, getD, List·getD-eq-default}
-use lib.IntN.{ℤ, pos}
+use borrow.Author.Tests.{ltb-true, ltb-false, eqb-true, leb-true}
+use lib.Dec.{ltb}
+use lib.ListN.{getD, List·getD-eq-default}
+use lib.IntN.{pos}
 use lib.Seq.{ext-getD}
 use Rattle.fixed.specs.Signed.{signed, bitsOf}
 use Rattle.fixed.proofs.TwosComplement.{bits-signed}
-use Rattle.chip.specs.declared.State.{State}
-use Rattle.layout.specs.Layout.{listOf, region, registersAt, arraysAt, waitsAt, samplesAt, tailAt, tailLength, place, rowOf, partsOf, wide, flag, phaseOf, phaseNumber, flagWord, lowHalf, highHalf, voiceFrom, stateFrom, stateOf, isTagged, isRow, isTail, isWellFormed, Holds, Halfwords, wordsOf, wordIn, headOf, tailOf, halfwordAt, bufferOf, stateLength}
+use Rattle.chip.specs.State.{State}
+use Rattle.layout.specs.Layout.{listOf, region, arraysAt, tailAt, tailLength, place, rowOf, partsOf, wide, flag, phaseOf, phaseNumber, flagWord, lowHalf, highHalf, voiceFrom, stateFrom, stateOf, isTagged, isRow, isTail, isWellFormed, Holds, Halfwords, wordsOf, wordIn, headOf, tailOf, halfwordAt, bufferOf, stateLength}
 use Rattle.layout.proofs.Laws.{list-length, list-at, list-same, region-at, place-low, place-wait, place-next, place-high, row-at, voice-at, register-at, tagged-length, form-tagged, form-row, form-tail, first-of, skip}
 
 -- ---- numbers

@@ -4,16 +4,15 @@ use mathlib.Core.Bool.{Bool, true, false}
 use mathlib.Core.List.{List, [], _∷_, _++_, map}
 use Prim.Native.Nat.{ℕ, zero, suc, _+_, _-_, _*_, _≤_, _<_}
 use native.Mathlib.Omega.{arith}
-use borrow.Author.Tests.{lt-ltb, le-ltb, eq-eqb, eqb-true, ltb-true, ltb-false, eqb-false}
+use borrow.Author.Tests.{lt-ltb, le-ltb, eqb-true, ltb-true, ltb-false, eqb-false}
 use lib.Dec.{ltb, eqb}
 use lib.ListN.{length, getD, set, length-append, length-set, length-map, List·getD-append}
 use lib.Seq.{getD-at, getD-set-same, getD-set-other, set-set, set-getD, ext-getD}
 use Rattle.fixed.proofs.Bools.{and-first, and-rest}
 use Rattle.voice.specs.declared.Voice.{Voice}
 use Rattle.voices.specs.Voices.{pastEnd}
-use Rattle.chip.specs.declared.State.{State}
-use Rattle.chip.specs.State.{allOf, withRegs, withVoices}
-use Rattle.layout.specs.Layout.{listOf, every, region, registersAt, arraysAt, waitsAt, samplesAt, tailAt, tailLength, tag, version, place, rowOf, Parts, partsOf, voiceFrom, stateFrom, stateOf, isTagged, isRow, isTail, areParts, isWellFormed, Formed, Holds, stateLength}
+use Rattle.chip.specs.State.{State, allOf, withRegs, withVoices}
+use Rattle.layout.specs.Layout.{listOf, every, region, registersAt, arraysAt, waitsAt, samplesAt, tailAt, tailLength, place, rowOf, Parts, partsOf, voiceFrom, stateFrom, stateOf, isTagged, isRow, isTail, areParts, isWellFormed, Formed, Holds, stateLength}
 use Rattle.layout.specs.Stores.{putWords, putTail}
 
 -- ---- lists by counting

@@ -11,8 +11,7 @@ use Rattle.fixed.specs.Signed.{signed}
 use Rattle.voice.specs.declared.Voice.{Voice}
 use Rattle.voice.specs.Voice.{fresh}
 use Rattle.voices.specs.Voices.{pastEnd}
-use Rattle.chip.specs.declared.State.{State}
-use Rattle.chip.specs.State.{allOf, withRegs, withVoices, freshOf}
+use Rattle.chip.specs.State.{State, allOf, withRegs, withVoices, freshOf}
 use Rattle.layout.specs.Layout.{listOf, every, region, registersAt, tailAt, tailLength, tag, version, place, rowOf, partsOf, lowHalf, highHalf, stateFrom, stateOf, isTagged, isRow, isTail, areParts, isWellFormed, Formed, Holds, stateLength}
 use Rattle.layout.specs.Stores.{withNoise, withVoice, zerosOf, blankOf}
 use Rattle.layout.proofs.Laws.{list-same, placed, formed, self-holds, holds-as, voices-count}

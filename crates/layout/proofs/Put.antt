@@ -8,7 +8,7 @@ use borrow.Author.Tests.{le-leb, leb-true, leb-false}
 use lib.Dec.{leb}
 use mir.Val.{boolByte}
 use lib.IntN.{ℤ, pos}
-use lib.ListN.{length, getD, set}
+use lib.ListN.{getD, set}
 use lib.Seq.{ext-getD}
 use Rattle.fixed.specs.Signed.{signed, bitsOf}
 use Rattle.fixed.proofs.TwosComplement.{signed-bits}
@@ -19,9 +19,9 @@ use Rattle.voice.specs.declared.Voice.{Voice}
 use Rattle.voice.specs.Voice.{withEnvelope, withPosition}
 use Rattle.voices.specs.Voices.{pastEnd}
 use Rattle.chip.specs.State.{allOf}
-use Rattle.layout.specs.Layout.{listOf, place, rowOf, wide, flag, phaseOf, phaseNumber, lowHalf, highHalf, voiceFrom, stateOf, isRow, isWellFormed, Formed, Holds}
+use Rattle.layout.specs.Layout.{listOf, place, rowOf, wide, flag, phaseOf, phaseNumber, lowHalf, highHalf, voiceFrom, stateOf, isRow, Formed, Holds}
 use Rattle.layout.specs.Stores.{putWords, Samples, sampleWord, withVoice, withWait, withRepeat}
-use Rattle.layout.proofs.Laws.{setWords, list-length, list-at, place-low, place-wait, place-next, place-high, voice-at, form-row, hold-words, hold-voice, keep, held, skip}
+use Rattle.layout.proofs.Laws.{setWords, list-length, list-at, place-low, place-wait, place-next, place-high, voice-at, form-row, hold-words, hold-voice, held, skip}
 
 -- ---- loops that put words
 

@@ -1,13 +1,12 @@
 -- A buffer is a state exactly if it is well-formed and what stands in it is in range. Assumes nothing.
 use mathlib.Core.Path.{_≡_}
-use mathlib.Core.Bool.{true, false}
+use mathlib.Core.Bool.{true}
 use mathlib.Core.List.{List}
 use Prim.Native.Nat.{ℕ}
 use Rattle.fixed.proofs.Bools.{and-first, and-rest}
-use Rattle.chip.specs.declared.State.{State}
 use Rattle.chip.specs.Range.{InRange}
 use Rattle.chip.proofs.Tests.{in-range, passes}
-use Rattle.layout.specs.Layout.{stateOf, isTagged, isWellFormed, isState, Formed, Holds}
+use Rattle.layout.specs.Layout.{stateOf, isWellFormed, isState, Formed}
 use Rattle.layout.proofs.Laws.{formed, registers-count, voices-count}
 
 module _ (xs : List ℕ) where
@@ -22,11 +21,3 @@ module _ (xs : List ℕ) where
   pub formed-state : Formed xs → InRange (stateOf xs) → isState xs ≡ true
   unfolding isState
   formed-state f r = rw (f .form) (passes (stateOf xs) r)
-
-  pub untagged : isTagged xs ≡ false → isState xs ≡ false
-  unfolding isState isWellFormed
-  untagged e = rw e
-
--- a state that stands in range in a buffer passes
-pub holds-state : {xs : List ℕ} {s : State} → Holds xs s → InRange s → isState xs ≡ true
-holds-state {xs} h r = formed-state xs (h .formed) (rw (h .state) r)

@@ -1,14 +1,14 @@
 -- What follows the voices, read and put in place as the code does it. Assumes nothing.
 use mathlib.Core.Path.{_≡_, refl, sym, ap, _∙_}
-use mathlib.Core.Bool.{Bool, true, false, _&&_}
+use mathlib.Core.Bool.{true, _&&_}
 use mathlib.Core.List.{List, [], _∷_}
 use Prim.Native.Nat.{ℕ, suc, _+_, _*_, _-_, _/_, _%_, _≤_, _<_}
 use native.Mathlib.Omega.{arith}
 use borrow.Author.Tests.{le-leb}
 use mir.Val.{boolByte}
 use lib.Dec.{eqb}
-use lib.IntN.{ℤ, pos}
-use lib.ListN.{length, getD, set}
+use lib.IntN.{ℤ}
+use lib.ListN.{getD, set}
 use Rattle.fixed.specs.Bits.{bit}
 use Rattle.fixed.specs.Range.{In}
 use Rattle.fixed.specs.Signed.{signed, bitsOf}
@@ -21,9 +21,9 @@ use Rattle.registers.specs.Map.{registerAt}
 use Rattle.chip.specs.declared.Control.{Control}
 use Rattle.chip.specs.declared.Reverb.{Reverb}
 use Rattle.chip.specs.State.{allOf, withControl, withTransfer, watchOf, watchedOf}
-use Rattle.layout.specs.Layout.{listOf, region, registersAt, tailAt, tailLength, partsOf, wide, flag, lowHalf, highHalf, stateFrom, stateOf, isTail, stateLength, Formed, Holds}
+use Rattle.layout.specs.Layout.{listOf, region, tailAt, tailLength, partsOf, wide, lowHalf, highHalf, stateFrom, stateOf, isTail, Formed, Holds}
 use Rattle.layout.specs.Stores.{putTail, withNoise, withPlace, withRest}
-use Rattle.layout.proofs.Laws.{setWords, region-at, register-at, form-tail, hold-tails, withTail, held, keep, skip}
+use Rattle.layout.proofs.Laws.{setWords, region-at, register-at, form-tail, hold-tails, withTail, held, skip}
 use Rattle.layout.proofs.Put.{flag-back, flag-most, wide-back}
 
 -- ---- read

@@ -11,8 +11,7 @@ use Rattle.envelope.specs.declared.Phase.{Phase}
 use Rattle.envelope.specs.declared.Phase.the-variants.{Idle, Attack, Decay, Sustain, Release, Off}
 use Rattle.voice.specs.declared.Voice.{Voice}
 use Rattle.voices.specs.Voices.{pastEnd}
-use Rattle.chip.specs.declared.State.{State}
-use Rattle.chip.specs.State.{allOf, stateOk}
+use Rattle.chip.specs.State.{State, allOf, stateOk}
 
 -- ---- lists by counting
 
@@ -84,7 +83,7 @@ partsOf xs = record { head = region 0 4 xs; regs = region registersAt 256 xs; ro
 
 -- ---- what it means
 
--- a number of 32 bits, of its halves
+-- the 32-bit number that two halves make
 abbrev pub wide : ℕ → ℕ → ℕ
 wide low high = low + high * 0x10000
 
@@ -92,11 +91,11 @@ wide low high = low + high * 0x10000
 abbrev pub flag : ℕ → Bool
 flag x = eqb x 1
 
--- the phase of a number up to 5
+-- the phase that a number up to 5 stands for
 unfoldable pub phaseOf : ℕ → Phase
 phaseOf n = cond (eqb n 0) Idle (cond (eqb n 1) Attack (cond (eqb n 2) Decay (cond (eqb n 3) Sustain (cond (eqb n 4) Release Off))))
 
--- a voice, of its words. An address stands as a unit of 8 bytes
+-- the voice that these words make. An address stands as a unit of 8 bytes
 unfoldable pub voiceFrom : List ℕ → Voice
 voiceFrom ws =
     record {
@@ -107,7 +106,7 @@ voiceFrom ws =
       ended = flag (getD ws 10 0);
     }
 
--- a state, of the parts. The places of the capture, of the reverb and of transfers stand as numbers of halfwords
+-- the state that the four parts make. The places of the capture, the reverb and transfers stand as numbers of halfwords
 unfoldable pub stateFrom : Parts → State
 stateFrom p =
     record {
@@ -137,7 +136,7 @@ voiceIn xs n = getD (stateOf xs .voices) n pastEnd
 
 -- ---- which buffers are states
 
--- of a state's length, with its tag
+-- it has a state's length and tag
 unfoldable pub isTagged : List ℕ → Bool
 isTagged xs = allOf (eqb (length xs) stateLength ∷ eqb (getD xs 0 0) tag ∷ eqb (getD xs 1 0) version ∷ [])
 
@@ -170,7 +169,7 @@ pub record Holds (xs : List ℕ) (s : State) : Type 0 where
   pub formed : Formed xs
   pub state : stateOf xs ≡ s
 
--- what the type of a lent buffer says: each is of 16 bits
+-- what the type of a lent buffer says: each element has 16 bits
 pub record Halfwords (xs : List ℕ) : Type 0 where
   pub each : (i : ℕ) → getD xs i 0 < 0x10000
 

@@ -12,11 +12,10 @@ use Rattle.voice.specs.declared.Voice.{Voice}
 use Rattle.voice.specs.Voice.{withEnvelope}
 use Rattle.chip.specs.declared.Control.{Control}
 use Rattle.chip.specs.declared.Reverb.{Reverb}
-use Rattle.chip.specs.declared.State.{State}
-use Rattle.chip.specs.State.{withRegs, withVoices, withReverb, freshOf}
+use Rattle.chip.specs.State.{State, withRegs, withVoices, withReverb, freshOf}
 use Rattle.layout.specs.Layout.{place, tailAt}
 
--- k words of voice n from the word first on, each f of its number, put one after another
+-- k words of voice n from the word first on, put one after another; f gives each by its number
 unfoldable pub putWords : (ℕ → ℕ) → ℕ → ℕ → List ℕ → ℕ → List ℕ
 putWords f n first xs zero = xs
 putWords f n first xs (suc k) = set (putWords f n first xs k) (place n (first + k)) (f (first + k))
@@ -26,7 +25,7 @@ unfoldable pub putTail : (ℕ → ℕ) → ℕ → List ℕ → ℕ → List ℕ
 putTail f first xs zero = xs
 putTail f first xs (suc k) = set (putTail f first xs k) (tailAt + (first + k)) (f (first + k))
 
--- what the types fix of samples
+-- what the type of samples says
 pub record Samples (xs : List ℤ) : Type 0 where
   pub count : length xs ≡ 31
   pub in16 : (n : ℕ) → n < 31 → In 0x8000 0x7FFF (getD xs n (pos 0))

@@ -77,7 +77,7 @@ pub const TICK: usize = 1280;
 
 pub const TRANSFER: usize = 1282;
 
-// A number of 32 bits, of its halves, and each of these.
+// The 32-bit number that two halves make, and each half of a number.
 
 pub fn wide(low: u16, high: u16) -> u32
     ensures { λ r. ⌜ r ≡ wideOf low high ⌝ }
@@ -104,7 +104,7 @@ fn byte(x: u16) -> u8
     x as u8
 }
 
-// The address of a unit.
+// The byte address of a unit.
 fn address(unit: u16) -> ByteAddress
     ensures { λ r. ⌜ r ≡ record { 0 = unit * 8 } ⌝ }
 {
@@ -317,7 +317,7 @@ pub fn capture(state: &[u16]) -> u16
     double(state[CAPTURE])
 }
 
-// The address of a halfword, whose number stands in two halves.
+// The byte address of a halfword whose number stands in two halves.
 fn address_of(low: u16, high: u16) -> ByteAddress
     requires { ⌜ wideOf low high * 2 < 0x80000 ⌝ }
     ensures { λ r. ⌜ r ≡ record { 0 = wideOf low high * 2 } ⌝ }
@@ -381,7 +381,7 @@ pub fn watch(state: &[u16]) -> Watch
 
 // ---- put
 
-// Where word w of voice n stands, of those before its samples.
+// Where word w of voice n stands, if it comes before the samples.
 fn place(n: usize, w: usize) -> usize
     requires { ⌜ (n < 24) × (w < 11) ⌝ }
     ensures { λ r. ⌜ (r ≡ placeOf n w) × (r < 1268) ⌝ }
@@ -423,7 +423,7 @@ fn phase_number(p: Phase) -> u16
     }
 }
 
-// The unit of an address.
+// The unit at an address.
 fn unit(a: ByteAddress) -> u16
     requires { ⌜ a .0 < 0x80000 ⌝ }
     ensures { λ r. ⌜ r ≡ a .0 / 8 ⌝ }
@@ -431,7 +431,7 @@ fn unit(a: ByteAddress) -> u16
     (a.0 / 8) as u16
 }
 
-// Voice n becomes another.
+// Replaces voice n.
 pub fn put_voice(state: &mut [u16], n: usize, v: Voice)
     requires { ⌜ (n < 24) × Formed (now state) × (v .source .address .0 % 8 ≡ 0) × (v .source .address .0 < 0x80000) ⌝ }
     ensures { λ _. ⌜ Holds (now (state .exit)) (withVoice (stateOf (now (state .entry))) n v) ⌝ }
@@ -457,7 +457,7 @@ pub fn put_voice(state: &mut [u16], n: usize, v: Voice)
     put_samples(state, n, samples);
 }
 
-// Its envelope alone.
+// Replaces its envelope alone.
 pub fn put_envelope(state: &mut [u16], n: usize, e: Envelope)
     requires { ⌜ (n < 24) × Formed (now state) ⌝ }
     ensures { λ _. ⌜ Holds (now (state .exit)) (withVoice (stateOf (now (state .entry))) n (withEnvelope (voiceIn (now (state .entry)) n) e)) ⌝ }
@@ -609,7 +609,7 @@ fn begin(state: &mut [u16], size: u32)
     state[3] = high(size);
 }
 
-// Every voice becomes a fresh one.
+// Makes every voice a fresh one.
 fn put_fresh(state: &mut [u16])
     requires { ⌜ Formed (now state) ⌝ }
     ensures { λ _. ⌜ Holds (now (state .exit)) (withVoices (stateOf (now (state .entry))) (replicate 24 freshVoice)) ⌝ }
@@ -619,7 +619,7 @@ fn put_fresh(state: &mut [u16])
     }
 }
 
-// The state becomes a fresh one, for a sound RAM of size bytes, whatever stood in the buffer.
+// Makes a fresh state for a sound RAM of size bytes, whatever stood in the buffer.
 pub fn fresh(state: &mut [u16], size: u32)
     requires { ⌜ length (now state) ≡ stateLength ⌝ }
     ensures { λ _. ⌜ Holds (now (state .exit)) (freshOf size) ⌝ }

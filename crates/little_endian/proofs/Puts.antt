@@ -6,7 +6,7 @@ use native.Mathlib.Numerals.{add-one}
 use native.Mathlib.Nat.{add-zero, add-assoc}
 use native.Mathlib.Omega.{arith}
 use lib.ListN.{length, set, drop, length-set, length-append, take-append-drop}
-use lib.Seq.{take-all, take-suc-set, drop-set-lt, drop-drop}
+use lib.Seq.{take-suc-set, drop-set-lt, drop-drop}
 use Rattle.little_endian.specs.Bytes.{each, Put}
 
 pub put-one : (xs : List ℕ) (at v : ℕ) → at < length xs → Put (v ∷ []) xs at (set xs at v)
@@ -34,12 +34,6 @@ put-then {ys} {zs} {xs} {xs′} {xs″} {at} p q =
 -- at a place that is given otherwise
 pub put-at : {ys zs xs xs′ xs″ : List ℕ} {at a : ℕ} → Put ys xs at xs′ → Put zs xs′ a xs″ → a ≡ at + length ys → Put (ys ++ zs) xs at xs″
 put-at {ys} {zs} {xs} {xs′} {xs″} {at} {a} p q e = put-then p (rw e at q)
-
--- what begins at the first place and ends at the last is all
-pub put-all : (ys : List ℕ) {xs xs′ : List ℕ} → Put ys xs 0 xs′ → length xs ≡ length ys → xs′ ≡ ys
-put-all ys {xs} {xs′} p e =
-    let q : 0 + length ys ≡ length ys = omega arith in
-    sym (take-all (length ys) xs′ (omega (arith, p .size))) ∙ rw q at (p .is)
 
 -- what begins at the first place is followed by what stood there
 pub put-first : (ys : List ℕ) {xs xs′ : List ℕ} → Put ys xs 0 xs′ → xs′ ≡ ys ++ drop (length ys) xs

@@ -11,10 +11,6 @@ unfoldable pub each : {A : Type 0} → (ℕ → List A) → ℕ → List A
 each f zero = []
 each f (suc n) = each f n ++ f n
 
--- the list of f 0, f 1, .., f (n - 1)
-abbrev pub listOf : {A : Type 0} → (ℕ → A) → ℕ → List A
-listOf f n = each (λ k. f k ∷ []) n
-
 -- ---- numbers: their bytes, and the number whose bytes stand at a place. By the code's types each number fits its bytes.
 
 -- the two bytes of a number of 16 bits

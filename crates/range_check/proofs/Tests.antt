@@ -5,7 +5,7 @@ use mathlib.Core.List.{List, [], _∷_, _++_}
 use Prim.Native.Nat.{ℕ, zero, suc, _+_, _-_, _*_, _/_, _%_, _≤_, _<_}
 use native.Mathlib.Omega.{arith}
 use mathlib.Core.Logic.{_⊎_, inl, inr, ⊎-elim}
-use borrow.Author.Tests.{leb-true, le-leb, eq-eqb, ne-eqb, eqb-true}
+use borrow.Author.Tests.{not-true, not-false, leb-true, le-leb, eq-eqb, ne-eqb, eqb-true}
 use lib.Bits.{bitAnd, and-mask}
 use lib.Dec.{leb, ltb, eqb}
 use lib.ListN.{length, getD}
@@ -16,13 +16,12 @@ use Rattle.envelope.specs.Adsr.{active}
 use Rattle.noise.specs.declared.Noise.{Noise}
 use Rattle.soundram.specs.Address.{addressOf}
 use Rattle.chip.specs.State.{allOf, sizeOk, voiceOk, everyOk, baseOf, stateOk}
-use Rattle.chip.proofs.Tests.{sized}
-use Rattle.chip.proofs.Parts.{tested-size}
+use Rattle.chip.proofs.Tests.{sized, tested-size}
 use Rattle.layout.specs.Layout.{listOf, every, rowOf, partsOf, place, wide, phaseOf, voiceFrom, stateOf, voiceIn, isTagged, isRow, isTail, areParts, isWellFormed, isState, stateLength, tag, version}
 use Rattle.layout.proofs.Laws.{row-at, voice-at}
 use Rattle.layout.proofs.Read.{phase-is}
 use Rattle.layout.proofs.Tail.{tail-at, noise-is, capture-at, place-at, transfer-at, register-is}
-use Rattle.range_check.specs.Waits.{waitOk}
+use Rattle.range_check.specs.Voices.{waitOk, fieldsOk}
 
 -- ---- tests that come to the same
 
@@ -37,10 +36,6 @@ same-test a b c d f g = same _ _ (λ e. le-leb c d (f (leb-true a b e))) (λ e. 
 swap : (a b c : Bool) → (a && (b && c)) ≡ (b && (a && c))
 swap true b c = refl
 swap false b c = sym (and-false b)
-
-stopped : (a b : Bool) → false ≡ (a && (b && false))
-stopped true b = sym (and-false b)
-stopped false b = refl
 
 -- ---- L and its last unit
 
@@ -68,7 +63,7 @@ unit-within last unit h e = by (sizes ((last + 1) * 8) e)
 
 -- the tests of one voice, in the code's order and in the definitions'
 grouped : (p v w a c i u l f e : Bool)
-    → (p && (v && ((w && a) && (c && (i && (u && (l && (f && e))))))))
+    → ((p && (v && (c && (i && (u && (l && (f && e))))))) && (w && a))
     ≡ ((p && (l && (f && (e && true)))) && (v && (w && (a && (c && (i && (true && (u && true))))))))
 grouped p v w a c i u l f e = simp (and-assoc, and-comm, swap, and-true)
 
@@ -91,15 +86,10 @@ every-list t f zero = refl
 every-list t f (suc n) = every-last t (listOf f n) (f n) ∙ rw (every-list t f n)
 
 module _ (xs : List ℕ) where
-  abbrev pub column : ℕ → ℕ → ℕ → Bool
-  column base most n = leb (getD xs (base + n) 0) most
-
   abbrev pub waiting : ℕ → Bool
   waiting n = waitOk (voiceIn xs n .envelope)
 
-  one-voice : (last n : ℕ) → n < 24
-      → (column 260 5 n && (column 284 0x7FFF n && (waiting n && (column 356 0xFFF n && (column 380 27 n && (column 404 last n && (column 452 1 n && (column 476 0xFF n && column 500 1 n))))))))
-      ≡ (isRow (rowOf xs n) && voiceOk ((last + 1) * 8) (voiceIn xs n))
+  one-voice : (last n : ℕ) → n < 24 → (fieldsOk xs last n && waiting n) ≡ (isRow (rowOf xs n) && voiceOk ((last + 1) * 8) (voiceIn xs n))
   unfolding isRow voiceOk allOf waitOk place voiceFrom
   one-voice last n h =
       let here : Envelope = record { phase = phaseOf (getD xs (260 + n) 0); level = getD xs (284 + n) 0; wait = wide (getD xs (308 + n * 2 + 0) 0) (getD xs (308 + n * 2 + 1) 0) } in
@@ -119,29 +109,20 @@ module _ (xs : List ℕ) where
         same-test (getD xs (404 + n) 0) last (suc (getD xs (404 + n) 0 * 8)) ((last + 1) * 8) (λ i. omega arith) (λ i. omega arith),
         eq-eqb (getD xs (404 + n) 0 * 8 % 8) 0 (omega arith),
       )
-      (grouped (column 260 5 n) (column 284 0x7FFF n) (leb (here .wait) 0x400000) (not (active (here .phase)) || leb 1 (here .wait)) (ltb (getD xs (356 + n) 0) 0x1000) (column 380 27 n)
-      (ltb (getD xs (404 + n) 0 * 8) ((last + 1) * 8)) (column 452 1 n) (column 476 0xFF n) (column 500 1 n))
+      (grouped (leb (getD xs (260 + n) 0) 5) (leb (getD xs (284 + n) 0) 0x7FFF) (leb (here .wait) 0x400000) (not (active (here .phase)) || leb 1 (here .wait)) (ltb (getD xs (356 + n) 0) 0x1000) (leb (getD xs (380 + n) 0) 27)
+      (ltb (getD xs (404 + n) 0 * 8) ((last + 1) * 8)) (leb (getD xs (452 + n) 0) 1) (leb (getD xs (476 + n) 0) 0xFF) (leb (getD xs (500 + n) 0) 1))
 
-  pub voices-tested : (last : ℕ) {a b c d e f g h i : Bool} → a ≡ allBelow 24 (column 260 5) → b ≡ allBelow 24 (column 284 0x7FFF) → c ≡ allBelow 24 waiting → d ≡ allBelow 24 (column 356 0xFFF)
-      → e ≡ allBelow 24 (column 380 27) → f ≡ allBelow 24 (column 404 last) → g ≡ allBelow 24 (column 452 1) → h ≡ allBelow 24 (column 476 0xFF) → i ≡ allBelow 24 (column 500 1)
-      → (a && (b && (c && (d && (e && (f && (g && (h && i)))))))) ≡ (every isRow (partsOf xs .rows) && everyOk ((last + 1) * 8) (stateOf xs .voices) 24)
-  unfolding partsOf
-  voices-tested last ea eb ec ed ee ef eg eh ei =
-      rw (every-list isRow (rowOf xs) 24)
-      (and-all _ _ 24 ea (and-all _ _ 24 eb (and-all _ _ 24 ec (and-all _ _ 24 ed (and-all _ _ 24 ee (and-all _ _ 24 ef (and-all _ _ 24 eg (and-all _ _ 24 eh ei)))))))
-      ∙ all-same _ _ 24 (one-voice last)
-      ∙ all-and _ _ 24)
+  -- d is the code's test of the fields, c that of the waits
+  module _ (last : ℕ) (d : Bool) (ed : d ≡ allBelow 24 (fieldsOk xs last)) where
+    voices-tested : {c : Bool} → c ≡ allBelow 24 waiting → (d && c) ≡ (every isRow (partsOf xs .rows) && everyOk ((last + 1) * 8) (stateOf xs .voices) 24)
+    unfolding partsOf
+    voices-tested ec = rw (every-list isRow (rowOf xs) 24) (and-all _ _ 24 ed ec ∙ all-same _ _ 24 (one-voice last) ∙ all-and _ _ 24)
 
-  -- the waits are tested before the others
-  pub waits-no : (last : ℕ) (c : Bool) → c ≡ allBelow 24 waiting → not c ≡ true → false ≡ (every isRow (partsOf xs .rows) && everyOk ((last + 1) * 8) (stateOf xs .voices) 24)
-  waits-no last false ec t = stopped (allBelow 24 (column 260 5)) (allBelow 24 (column 284 0x7FFF)) ∙ voices-tested last refl refl ec refl refl refl refl refl refl
-  waits-no last true ec t = absurd (false≢true t)
+    pub fields-no : not d ≡ true → false ≡ (every isRow (partsOf xs .rows) && everyOk ((last + 1) * 8) (stateOf xs .voices) 24)
+    fields-no t = ap (λ b. b && allBelow 24 waiting) (sym (not-true d t)) ∙ voices-tested refl
 
-  pub waits-yes : (last : ℕ) (c : Bool) → c ≡ allBelow 24 waiting → not c ≡ false → {a b d e f g h i : Bool} → a ≡ allBelow 24 (column 260 5) → b ≡ allBelow 24 (column 284 0x7FFF)
-      → d ≡ allBelow 24 (column 356 0xFFF) → e ≡ allBelow 24 (column 380 27) → f ≡ allBelow 24 (column 404 last) → g ≡ allBelow 24 (column 452 1) → h ≡ allBelow 24 (column 476 0xFF)
-      → i ≡ allBelow 24 (column 500 1) → (a && (b && (d && (e && (f && (g && (h && i))))))) ≡ (every isRow (partsOf xs .rows) && everyOk ((last + 1) * 8) (stateOf xs .voices) 24)
-  waits-yes last true ec t ea eb ed ee ef eg eh ei = voices-tested last ea eb ec ed ee ef eg eh ei
-  waits-yes last false ec t ea eb ed ee ef eg eh ei = absurd (false≢true (sym t))
+    pub fields-yes : {c : Bool} → not d ≡ false → c ≡ allBelow 24 waiting → c ≡ (every isRow (partsOf xs .rows) && everyOk ((last + 1) * 8) (stateOf xs .voices) 24)
+    fields-yes {c} t ec = ap (λ b. b && c) (sym (not-false d t)) ∙ voices-tested ec
 
   -- a phase that has no steps
   resting : (p : ℕ) → (eqb p 0 || leb 5 p) ≡ not (active (phaseOf p))

@@ -1,4 +1,4 @@
-// Whether the state in a lent buffer is in range, tested where it stands: a loop for each array over the voices, so that eight voices are tested at a time.
+// Whether the state in a lent buffer is in range, tested where it stands: one loop over the voices' arrays, which the compiler turns into tests of eight voices at a time.
 ghost use mathlib.Core.Path.{_≡_};
 ghost use mathlib.Core.Bool.{true, _&&_};
 ghost use Prim.Native.Nat.{_+_, _*_, _≤_};
@@ -8,7 +8,7 @@ ghost use Rattle.fixed.specs.Tests.{allBelow};
 ghost use Rattle.soundram.specs.Address.{addressOf};
 ghost use Rattle.chip.specs.State.{sizeOk, everyOk, stateOk};
 ghost use Rattle.layout.specs.Layout.{stateLength, partsOf, stateOf, voiceIn, every, isTagged, isRow, isTail, isState};
-ghost use Rattle.range_check.specs.Waits.{waitOk};
+ghost use Rattle.range_check.specs.Voices.{waitOk, fieldsOk};
 
 // Whether there is a sound RAM of size bytes.
 pub fn size_ok(size: u32) -> bool
@@ -27,14 +27,22 @@ pub fn is_tagged(state: &[u16]) -> bool
     (state[0] == layout::TAG) & (state[1] == layout::VERSION)
 }
 
-// Whether each of the 24 halfwords from base on is at most most.
-fn at_most(state: &[u16], base: usize, most: u16) -> bool
-    requires { ⌜ base + 24 ≤ length (now state) ⌝ }
-    ensures { λ r. ⌜ r ≡ allBelow 24 (λ n. leb (getD (now (state .entry)) (base + n) 0) most) ⌝ }
+// Whether each voice's fields but its wait are in range, in a sound RAM whose last unit is last.
+fn fields(state: &[u16], last: u16) -> bool
+    requires { ⌜ length (now state) ≡ stateLength ⌝ }
+    ensures { λ r. ⌜ r ≡ allBelow 24 (fieldsOk (now (state .entry)) last) ⌝ }
 {
     let mut ok = true;
     for n in 0..24usize {
-        ok = ok & (state[base + n] <= most);
+        ok = ok
+            & ((state[layout::PHASES + n] <= 5)
+                & ((state[layout::LEVELS + n] <= 0x7FFF)
+                    & ((state[layout::COUNTERS + n] <= 0xFFF)
+                        & ((state[layout::INDICES + n] <= 27)
+                            & ((state[layout::UNITS + n] <= last)
+                                & ((state[layout::LOADED + n] <= 1)
+                                    & ((state[layout::FLAGS + n] <= 0xFF)
+                                        & (state[layout::ENDED + n] <= 1))))))));
     }
     ok
 }
@@ -53,25 +61,18 @@ fn waits(state: &[u16]) -> bool
     ok
 }
 
-// The voices, in a sound RAM whose last unit is last. In this order of the arrays the compiler tests each with few instructions; in others it mixes them.
+// The voices, in a sound RAM whose last unit is last. The waits have a loop of their own, because they are wider: four fit where eight other fields do.
 fn voices(state: &[u16], last: u16) -> bool
     requires { ⌜ length (now state) ≡ stateLength ⌝ }
     ensures { λ r. ⌜ r ≡ (every isRow (partsOf (now (state .entry)) .rows) && everyOk ((last + 1) * 8) (stateOf (now (state .entry)) .voices) 24) ⌝ }
 {
-    if !waits(state) {
+    if !fields(state, last) {
         return false;
     }
-    at_most(state, layout::PHASES, 5)
-        & (at_most(state, layout::LEVELS, 0x7FFF)
-            & (at_most(state, layout::COUNTERS, 0xFFF)
-                & (at_most(state, layout::INDICES, 27)
-                    & (at_most(state, layout::UNITS, last)
-                        & (at_most(state, layout::LOADED, 1)
-                            & (at_most(state, layout::FLAGS, 0xFF)
-                                & at_most(state, layout::ENDED, 1)))))))
+    waits(state)
 }
 
-// The last unit of a sound RAM, which has one of two sizes.
+// The last unit of a sound RAM of one of the two sizes.
 fn last_unit(size: u32) -> u16
     ensures { λ r. ⌜ (sizeOk size ≡ true → (r + 1) * 8 ≡ size) ⌝ }
 {
@@ -81,7 +82,7 @@ fn last_unit(size: u32) -> u16
     0x1FFF
 }
 
-// The first halfword of a unit, in a sound RAM whose last unit is last.
+// The number of a unit's first halfword, in a sound RAM whose last unit is last.
 fn halfword_of(last: u16, unit: u16) -> u32
     ensures { λ r. ⌜ (sizeOk ((last + 1) * 8) ≡ true → r * 2 ≡ addressOf ((last + 1) * 8) (record { 0 = unit }) .0) ⌝ }
 {

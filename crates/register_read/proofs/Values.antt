@@ -21,8 +21,8 @@ use Rattle.voice.specs.declared.Source.{Source}
 use Rattle.voice.specs.declared.Voice.{Voice}
 use Rattle.voices.specs.Voices.{pastEnd}
 use Rattle.chip.specs.declared.Control.{Control}
-use Rattle.chip.specs.declared.State.{State}
-use Rattle.ports.specs.Registers.{isRepeat, endFlags, statusOf, doubled, voiceAt, readOf}
+use Rattle.chip.specs.State.{State}
+use Rattle.chip.specs.Registers.{isRepeat, endFlags, statusOf, doubled, voiceAt, readOf}
 use Rattle.layout.specs.Layout.{stateOf, voiceIn}
 use Rattle.layout.proofs.Read.{ended-is, source-is}
 use Rattle.layout.proofs.Tail.{capture-is}

@@ -5,10 +5,10 @@ ghost use Prim.Native.Nat.{_+_, _^_, _≤_, _<_};
 ghost use lib.Dec.{leb};
 ghost use lib.ListN.{length};
 ghost use Rattle.registers.specs.Offsets.{listed as listedAt};
-ghost use Rattle.ports.specs.Registers.{endFlags, statusOf, doubled as doubledAt, readOf};
+ghost use Rattle.chip.specs.Registers.{endFlags, statusOf, doubled as doubledAt, readOf};
 ghost use Rattle.layout.specs.Layout.{stateLength, stateOf, voiceIn};
 
-// The flag of a voice's end, as bit k.
+// A voice's end flag, as bit k.
 fn end_flag(ended: bool, k: usize) -> u16
     requires { ⌜ k < 16 ⌝ }
     ensures { λ r. ⌜ r ≡ cond ended (2 ^ k) 0 ⌝ }
@@ -31,7 +31,7 @@ fn end_flags(state: &[u16], first: usize, count: usize) -> u16
     flags
 }
 
-// A bit of weight w, if set.
+// The weight w if the bit is set, otherwise 0.
 fn weight(set: bool, w: u16) -> u16
     ensures { λ r. ⌜ (r ≡ cond set w 0) × (r ≤ w) ⌝ }
 {
@@ -61,7 +61,7 @@ fn status(state: &[u16]) -> u16
     low + weight(mode == 2, 0x100) + weight(mode == 3, 0x200) + weight(past_half(state), 0x800)
 }
 
-// The doubled main volume, of the register at an offset.
+// The doubled main volume; offset is the register's.
 fn doubled(state: &[u16], offset: usize) -> u16
     requires { ⌜ (length (now state) ≡ stateLength) × (offset < 512) ⌝ }
     ensures { λ r. ⌜ r ≡ doubledAt (stateOf (now (state .entry))) offset ⌝ }

@@ -23,11 +23,10 @@ use Rattle.voice.proofs.Keys.{keyed-off, keyed-still, stopped}
 use Rattle.voice.proofs.Range.{keyed-on-in}
 use Rattle.voices.specs.Voices.{pastEnd}
 use Rattle.chip.specs.declared.Control.{Control}
-use Rattle.chip.specs.declared.State.{State}
-use Rattle.chip.specs.State.{withRegs, withVoices, withControl, withTransfer}
+use Rattle.chip.specs.State.{State, withRegs, withVoices, withControl, withTransfer}
 use Rattle.chip.proofs.Ranges.{placed-even}
-use Rattle.ports.specs.Registers.{keyed, keyOn, keyOff, repeated, setRepeat, setControl, isRepeat, isKeyOn, isKeyOff, effectOf, writeOf}
-use Rattle.ports.proofs.Parts.{stop-none, stop-more, bits-none, bits-more, keys-first, keys-second, repeat-as, on-as, on-none, off-as, control-on, control-off, effect-repeat, effect-on, effect-off, effect-base, effect-transfer, effect-control, effect-none, write-as}
+use Rattle.chip.specs.Registers.{keyed, keyOn, keyOff, repeated, setRepeat, setControl, isRepeat, isKeyOn, isKeyOff, effectOf, writeOf}
+use Rattle.chip.proofs.Registers.{stop-none, stop-more, bits-none, bits-more, keys-first, keys-second, repeat-as, on-as, on-none, off-as, control-on, control-off, effect-repeat, effect-on, effect-off, effect-base, effect-transfer, effect-control, effect-none, write-as}
 use Rattle.layout.specs.Layout.{stateOf, voiceIn, Formed, Holds}
 use Rattle.layout.specs.Stores.{withVoice, withRepeat, withNoise, withPlace}
 use Rattle.layout.proofs.Laws.{self-holds, holds-as}

@@ -5,9 +5,8 @@ use lib.ListN.{getD}
 use Rattle.voice.specs.declared.Voice.{Voice}
 use Rattle.voice.specs.Voice.{stoppedOf}
 use Rattle.voices.specs.Voices.{pastEnd}
-use Rattle.chip.specs.declared.State.{State}
-use Rattle.chip.specs.State.{withVoices}
-use Rattle.ports.specs.Registers.{keyed, onBits, onKeys, stopFirst}
+use Rattle.chip.specs.State.{State, withVoices}
+use Rattle.chip.specs.Registers.{keyed, onBits, onKeys, stopFirst}
 use Rattle.layout.specs.Stores.{withVoice}
 
 -- voice n after it is keyed on or off by its registers

@@ -6,7 +6,7 @@ ghost use lib.ListN.{length};
 ghost use Rattle.soundram.specs.Address.{Sized};
 ghost use Rattle.registers.specs.Map.{ofVoice};
 ghost use Rattle.registers.specs.Offsets.{listed as listedAt};
-ghost use Rattle.ports.specs.Registers.{keyOn, keyOff, setRepeat, setControl, effectOf, writeOf};
+ghost use Rattle.chip.specs.Registers.{keyOn, keyOff, setRepeat, setControl, effectOf, writeOf};
 ghost use Rattle.layout.specs.Layout.{stateLength, Formed, stateOf, Holds};
 ghost use Rattle.register_write.specs.Keys.{keyVoice, keyIf, keyBits, keyPair, stopVoice, stopVoices};
 use chip::Control;
@@ -22,7 +22,7 @@ fn of_voice(state: &[u16], n: usize, offset: usize) -> u16
     layout::register(state, n * 16 + offset)
 }
 
-// Voice n keyed on.
+// Keys voice n on.
 fn start(state: &mut [u16], n: usize)
     requires { ⌜ (n < 24) × Formed (now state) × Sized (stateOf (now state) .choices .size) ⌝ }
     ensures { λ _. ⌜ Holds (now (state .exit)) (keyVoice true (stateOf (now (state .entry))) n) ⌝ }
@@ -35,7 +35,7 @@ fn start(state: &mut [u16], n: usize)
     layout::put_voice(state, n, v);
 }
 
-// Voice n keyed off: its envelope alone changes.
+// Keys voice n off: its envelope alone changes.
 fn release(state: &mut [u16], n: usize)
     requires { ⌜ (n < 24) × Formed (now state) ⌝ }
     ensures { λ _. ⌜ Holds (now (state .exit)) (keyVoice false (stateOf (now (state .entry))) n) ⌝ }
@@ -51,7 +51,7 @@ fn release(state: &mut [u16], n: usize)
     layout::put_envelope(state, n, after);
 }
 
-// Voice n keyed on or off, if its bit is set.
+// Keys voice n on or off, if its bit is set.
 fn key(state: &mut [u16], set: bool, on: bool, n: usize)
     requires { ⌜ (n < 24) × Formed (now state) × Sized (stateOf (now state) .choices .size) ⌝ }
     ensures { λ _. ⌜ Holds (now (state .exit)) (keyIf set on (stateOf (now (state .entry))) n) ⌝ }
@@ -66,7 +66,7 @@ fn key(state: &mut [u16], set: bool, on: bool, n: usize)
     release(state, n);
 }
 
-// The voices from first on whose bits are set in value, of count bits.
+// Keys those of count voices, from first on, whose bits are set in value.
 fn on_bits(state: &mut [u16], on: bool, value: u16, first: usize, count: usize)
     requires { ⌜ (first + count ≤ 24) × (count ≤ 16) × Formed (now state) × Sized (stateOf (now state) .choices .size) ⌝ }
     ensures { λ _. ⌜ Holds (now (state .exit)) (keyBits on (stateOf (now (state .entry))) value first count) ⌝ }
@@ -112,7 +112,7 @@ fn set_repeat(state: &mut [u16], n: usize, value: u16)
     layout::put_repeat(state, n, value);
 }
 
-// Voice n stopped: it gets the envelope of a fresh voice.
+// Stops voice n: it gets the envelope of a fresh voice.
 fn stop(state: &mut [u16], n: usize)
     requires { ⌜ (n < 24) × Formed (now state) ⌝ }
     ensures { λ _. ⌜ Holds (now (state .exit)) (stopVoice (stateOf (now (state .entry))) n) ⌝ }
@@ -131,7 +131,7 @@ fn stop_all(state: &mut [u16])
     }
 }
 
-// What a write to SPUCNT does, of its old and its new value.
+// What a write to SPUCNT does; old is the value before it.
 fn set_control(state: &mut [u16], old: u16, value: u16)
     requires { ⌜ Formed (now state) ⌝ }
     ensures { λ _. ⌜ Holds (now (state .exit)) (setControl (stateOf (now (state .entry))) old value) ⌝ }

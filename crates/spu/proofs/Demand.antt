@@ -11,9 +11,8 @@ use Rattle.soundram.specs.TwoRuns.{AgreeAt, Safe}
 use Rattle.soundram.specs.Calls.{Reply, Doing, still, works, repeats, log, Indistinct, SafeDoing, Sound}
 use Rattle.soundram.proofs.TwoRuns.{safe-done, safe-bind}
 use Rattle.soundram.proofs.Calls as calls
-use Rattle.chip.specs.declared.State.{State}
-use Rattle.chip.specs.State.{freshOf, watchOf, watchedOf}
-use Rattle.ports.proofs.Writes.{of-both, write-doubt}
+use Rattle.chip.specs.State.{State, freshOf, watchOf, watchedOf}
+use Rattle.chip.proofs.Writes.{of-both, write-doubt}
 use Rattle.spu.specs.Step.{Call, write, read, transferIn, transferOut, tick, tickFloats, run, runFloats, reset, view, status, Answer, numberOf, tickInto, acceptedOf, stepOf, chip}
 use Rattle.transfer.proofs.Moves.{safe-inward, safe-outward}
 use Rattle.tick.proofs.Safe.{safe-tick}

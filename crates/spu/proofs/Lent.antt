@@ -2,9 +2,9 @@
 use mathlib.Core.Path.{_≡_, refl, sym, ap, _∙_}
 use mathlib.Core.Bool.{Bool, true, false, _&&_, not}
 use mathlib.Core.List.{List}
-use Prim.Native.Nat.{ℕ, _-_, _/_, _<_}
+use Prim.Native.Nat.{ℕ, _-_, _/_}
 use native.Mathlib.Omega.{arith}
-use borrow.Author.Tests.{eqb-true, not-false, ne-eqb}
+use borrow.Author.Tests.{eqb-true, not-false}
 use lib.Dec.{eqb}
 use lib.ListN.{length}
 use lib.IntN.{ℤ}
@@ -14,10 +14,9 @@ use Rattle.soundram.specs.Address.{Lent}
 use Rattle.soundram.specs.Program.{Prog, memOf, Does}
 use Rattle.soundram.specs.Calls.{Reply, Time, Doing, still, works, repeats, Outcome, Times, startOf, endOf, timesOf, outcome}
 use Rattle.soundram.proofs.Times.{worked-does}
-use Rattle.chip.specs.declared.State.{State}
-use Rattle.chip.specs.State.{stateOk, watchOf, watchedOf}
+use Rattle.chip.specs.State.{State, stateOk, watchOf, watchedOf}
 use Rattle.chip.proofs.Tests.{ok-sized}
-use Rattle.spu.specs.Step.{Call, Answer, Test, firstOf, lentTests, numberOf, refusedOf, acceptedOf, stepOf, chip, outcomeOf, Leaves}
+use Rattle.spu.specs.Step.{Call, Answer, Test, firstOf, lentTests, numberOf, acceptedOf, stepOf, chip, outcomeOf, Leaves}
 use Rattle.spu.proofs.Range.{passed-first, passed-rest}
 
 -- ---- what an accepted call may rely on
@@ -25,9 +24,6 @@ use Rattle.spu.proofs.Range.{passed-first, passed-rest}
 module _ (good : Bool) (s : State) (ok : good ≡ true → stateOk s ≡ true) (ts : List Test) {n : ℕ} where
   pub lent-ok : (ram marks : ℕ) → n ≡ firstOf (lentTests good s ram marks ts) → n ≡ 0 → stateOk s ≡ true
   lent-ok ram marks e z = ok (not-false _ (passed-first _ 1 _ (passed-rest _ 0 _ (sym e ∙ z))))
-
-  pub lent-some : (ram marks : ℕ) → n ≡ firstOf (lentTests good s ram marks ts) → n ≡ 0 → 0 < s .choices .size
-  lent-some ram marks e z = let h = ok-sized s (lent-ok ram marks e z) in omega arith
 
   pub lent-all : (ram marks : List ℕ) → n ≡ firstOf (lentTests good s (length ram) (length marks) ts) → n ≡ 0 → Lent (s .choices .size) ram marks
   lent-all ram marks e z =
@@ -38,7 +34,7 @@ module _ (good : Bool) (s : State) (ok : good ≡ true → stateOk s ≡ true) (
       let d = k .sixteens in
       record { ram-size = a; marks-size = omega arith; sized = k }
 
--- ---- refused, and accepted
+-- ---- accepted
 
 leaves-of : (c : Call) (s : State) (r m : List ℕ) (o : Outcome Answer State) → outcomeOf c s r m ≡ o → Leaves c s r m (o .answer) (o .irq) (o .doubt) (o .state) (o .ram) (o .marks)
 leaves-of c s r m o e =
@@ -52,11 +48,7 @@ leaves-of c s r m o e =
     }
 
 module _ (c : Call) (s : State) (r m : List ℕ) {n : ℕ} (e : n ≡ numberOf c s (length r) (length m)) where
-  pub leaves-refused : (n ≡ 0 → ⊥) → Leaves c s r m (refusedOf c n) false false s r m
-  unfolding outcomeOf stepOf outcome
-  leaves-refused z = leaves-of c s r m (outcome chip (still (refusedOf c n) s) s r m) (rw (← e, ne-eqb n 0 z))
-
-  outcome-accepted : {d : Doing Answer State} → n ≡ 0 → acceptedOf c s ≡ d → outcomeOf c s r m ≡ outcome chip d s r m
+  pub outcome-accepted : {d : Doing Answer State} → n ≡ 0 → acceptedOf c s ≡ d → outcomeOf c s r m ≡ outcome chip d s r m
   unfolding outcomeOf stepOf
   outcome-accepted z f = rw (← e, z, f)
 

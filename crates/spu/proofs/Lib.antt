@@ -3,5 +3,5 @@ pub mod Range
 pub mod Numbers
 pub mod Undocumented
 pub mod Lent
-pub mod Shape
 pub mod Runs
+pub mod Log

@@ -4,7 +4,7 @@ use mathlib.Core.Bool.{Bool, true, false, _||_, not}
 use mathlib.Core.List.{List, [], _∷_}
 use Prim.Native.Nat.{ℕ, _/_}
 use lib.Dec.{eqb}
-use Rattle.chip.specs.declared.State.{State}
+use Rattle.chip.specs.State.{State}
 use Rattle.spu.specs.Step.{Test, test, firstOf, lentTests}
 use Rattle.spu.proofs.Range.{passed-first, passed-rest}
 

@@ -16,12 +16,11 @@ use Rattle.soundram.proofs.Addresses.{forward-multiple, forward-below}
 use Rattle.soundram.proofs.Programs.{Always, ends, always-bind, always-run}
 use Rattle.soundram.proofs.Times.{times-keep}
 use Rattle.registers.specs.Offsets.{listed}
-use Rattle.chip.specs.declared.State.{State}
-use Rattle.chip.specs.State.{stateOk, watchedOf}
+use Rattle.chip.specs.State.{State, stateOk, watchedOf}
 use Rattle.chip.specs.Range.{Shaped, TransferIn, InRange}
 use Rattle.chip.proofs.Tests.{in-range, sized}
 use Rattle.chip.proofs.Ranges.{transfer-in, fresh-state-in}
-use Rattle.ports.proofs.Ranges.{write-in}
+use Rattle.chip.proofs.WriteRanges.{write-in}
 use Rattle.transfer.proofs.Moves.{inward-keeps, outward-keeps}
 use Rattle.tick.proofs.Range.{tick-in}
 use Rattle.spu.specs.Step.{Call, write, read, transferIn, transferOut, tick, tickFloats, run, runFloats, reset, view, status, Answer, Test, firstOf, testsOf, numberOf, refusedOf, tickInto, acceptedOf, stepOf, chip}
@@ -77,7 +76,7 @@ pub accepted-listed : (offset v : ℕ) (s : State) (ram marks : ℕ) → numberO
 unfolding numberOf
 accepted-listed offset v s ram marks e = not-false _ (passed-first _ 2 _ (passed-rest _ 1 _ e))
 
-into-in : (cd : List ℤ) (k : ℕ) (so : Reply (List ℤ) State) → Left so → Always Left (tickInto cd k so)
+pub into-in : (cd : List ℤ) (k : ℕ) (so : Reply (List ℤ) State) → Left so → Always Left (tickInto cd k so)
 unfolding tickInto
 into-in cd k so r = always-bind (tick-in _ _ r) (λ a q. ends q)
 
@@ -98,7 +97,7 @@ accepted-in (view a) s ram marks e r = r
 accepted-in status s ram marks e r = r
 
 -- what is watched is none of the ranges
-watched-in : {s : State} (w : Watch) → InRange s → InRange (watchedOf s w)
+pub watched-in : {s : State} (w : Watch) → InRange s → InRange (watchedOf s w)
 unfolding watchedOf
 watched-in w r = record { shaped = record { regs = r .shaped .regs; voices = r .shaped .voices }; size = r .size; voices = r .voices; capture = r .capture; place = r .place; transfer = r .transfer; noise = r .noise }
 

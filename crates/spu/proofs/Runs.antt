@@ -6,7 +6,7 @@ use lib.IntN.{ℤ, pos}
 use Rattle.soundram.specs.Program.{Mem, Does}
 use Rattle.soundram.specs.Calls.{Reply}
 use Rattle.soundram.proofs.Programs.{does-done, does-bind}
-use Rattle.chip.specs.declared.State.{State}
+use Rattle.chip.specs.State.{State}
 use Rattle.tick.specs.declared.Pair.{Pair}
 use Rattle.tick.specs.Tick.{tickOf}
 use Rattle.spu.specs.Step.{tickInto}

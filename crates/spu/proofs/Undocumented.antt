@@ -5,8 +5,7 @@ use mathlib.Core.List.{[], _∷_}
 use Prim.Native.Nat.{ℕ}
 use lib.Dec.{eqb}
 use Rattle.registers.specs.Offsets.{listed, readOnly, undocumented, notWritten}
-use Rattle.chip.specs.declared.State.{State}
-use Rattle.chip.specs.State.{stateOk}
+use Rattle.chip.specs.State.{State, stateOk}
 use Rattle.spu.specs.Step.{test, firstOf, numberOf, write}
 
 -- document 01's number of a write, "the lowest number that applies"

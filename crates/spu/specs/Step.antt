@@ -4,7 +4,7 @@ use mathlib.Core.Bool.{Bool, false, cond, _||_, _&&_, not}
 use mathlib.Core.List.{List, [], _∷_, _++_, map}
 use Prim.Native.Nat.{ℕ, _+_, _-_, _*_, _/_, _%_}
 use lib.Dec.{eqb, ltb}
-use lib.ListN.{length, getD, set, take, drop}
+use lib.ListN.{length, getD, set}
 use lib.IntN.{ℤ, pos}
 use lib.Ieee.{Float}
 use Rattle.fixed.specs.Bits.{field}
@@ -13,10 +13,8 @@ use Rattle.stereo.specs.Float.{floatOf, stereoOf}
 use Rattle.soundram.specs.Program.{Prog, done, bind}
 use Rattle.soundram.specs.Calls.{Reply, Doing, still, works, repeats, Machine, Outcome, outcome}
 use Rattle.registers.specs.Offsets.{listed, readOnly, undocumented, notWritten, notRead}
-use Rattle.chip.specs.declared.State.{State}
-use Rattle.chip.specs.State.{withTransfer, freshOf, sizeOk, stateOk, watchOf, watchedOf}
-use Rattle.ports.specs.Registers.{writeOf, readOf}
-use Rattle.spu.specs.declared.Changed.{Changed}
+use Rattle.chip.specs.State.{State, withTransfer, freshOf, stateOk, watchOf, watchedOf}
+use Rattle.chip.specs.Registers.{writeOf, readOf}
 use Rattle.transfer.specs.Transfer.{inwardOf, outwardOf}
 use Rattle.tick.specs.declared.Pair.{Pair}
 use Rattle.tick.specs.Tick.{tickOf}
@@ -176,10 +174,6 @@ acceptedOf status s = still (looked 0 (s .control .doubt) (s .choices .size) (s 
 unfoldable pub stepOf : Call → State → ℕ → ℕ → Doing Answer State
 stepOf c s ram marks = let n = numberOf c s ram marks in cond (eqb n 0) (acceptedOf c s) (still (refusedOf c n) s)
 
--- a call that touches no memory gives this answer and leaves this state, whatever is lent
-pub record Gives (c : Call) (s : State) (a : Answer) (t : State) : Type 0 where
-  pub step : (ram marks : ℕ) → stepOf c s ram marks ≡ still a t
-
 abbrev pub chip : Machine Call Answer State
 chip = record { step = stepOf; watch = watchOf; watched = watchedOf }
 
@@ -195,13 +189,3 @@ pub record Leaves (c : Call) (s : State) (r m : List ℕ) (a : Answer) (i d : Bo
   pub state : t ≡ outcomeOf c s r m .state
   pub ram : r′ ≡ outcomeOf c s r m .ram
   pub marks : m′ ≡ outcomeOf c s r m .marks
-
--- ---- "Making a state for another L gives 1 and the fresh state for 65,536."
-
-unfoldable pub makeOf : ℕ → Changed
-makeOf size = cond (sizeOk size) (record { number = 0; state = freshOf size }) (record { number = 1; state = freshOf 0x10000 })
-
--- ---- "The block view gives back the caller's own sixteen bytes of sound RAM", "an empty view" on refusal
-
-unfoldable pub viewOf : State → List ℕ → ℕ → List ℕ
-viewOf s ram a = cond (eqb (numberOf (view a) s (length ram) 0) 0) (take 16 (drop a ram)) []

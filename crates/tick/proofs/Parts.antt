@@ -28,7 +28,7 @@ use Rattle.reverb.specs.declared.Turning.{Turning}
 use Rattle.reverb.specs.Reverb.{AreaIn, sideOf, turnOf}
 use Rattle.chip.specs.declared.Held.{Held}
 use Rattle.chip.specs.declared.Reverb.{Reverb}
-use Rattle.chip.specs.declared.State.{State}
+use Rattle.chip.specs.State.{State}
 use Rattle.chip.specs.Range.{PlaceIn}
 use Rattle.tick.specs.declared.Pair.{Pair}
 use Rattle.tick.specs.declared.Rest.{Rest}

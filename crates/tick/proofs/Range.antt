@@ -13,8 +13,7 @@ use Rattle.soundram.proofs.Programs.{Always, ends, always-any, always-bind}
 use Rattle.voices.specs.declared.Sums.{Sums}
 use Rattle.voices.proofs.Turns.{voices-in}
 use Rattle.chip.specs.declared.Reverb.{Reverb}
-use Rattle.chip.specs.declared.State.{State}
-use Rattle.chip.specs.State.{baseOf}
+use Rattle.chip.specs.State.{State, baseOf}
 use Rattle.chip.specs.Range.{PlaceIn, InRange}
 use Rattle.chip.proofs.Tests.{sized}
 use Rattle.chip.proofs.Ranges.{placed-even, placed-most}

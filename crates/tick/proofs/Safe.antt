@@ -18,7 +18,7 @@ use Rattle.reverb.specs.declared.Turning.{Turning}
 use Rattle.reverb.specs.Reverb.{sideOf, own, turnOf}
 use Rattle.reverb.proofs.Safe.{counted-turn, blind-turn, silent-turn, reads-turn}
 use Rattle.chip.specs.declared.Reverb.{Reverb}
-use Rattle.chip.specs.declared.State.{State}
+use Rattle.chip.specs.State.{State}
 use Rattle.tick.specs.Tick.{turningOf, heldOf, reverbAfter, reverbOf, tickOf}
 
 -- ---- a tick

@@ -11,8 +11,7 @@ use Rattle.soundram.specs.Program.{Mem, Does}
 use Rattle.registers.specs.Map.{registerAt}
 use Rattle.voice.specs.declared.Voice.{Voice}
 use Rattle.voices.specs.Voices.{mixedOf}
-use Rattle.chip.specs.declared.State.{State}
-use Rattle.chip.specs.State.{watchOf}
+use Rattle.chip.specs.State.{State, watchOf}
 use Rattle.tick.specs.declared.Pair.{Pair}
 use Rattle.tick.specs.declared.Rest.{Rest}
 use Rattle.tick.specs.declared.Going.{Going}

@@ -1,11 +1,11 @@
 -- A run of ticks, as its loop goes through it. Assumes nothing.
-use mathlib.Core.Path.{_≡_, refl, sym, ap, subst, _∙_}
+use mathlib.Core.Path.{_≡_, refl, sym, ap, _∙_}
 use mathlib.Core.Bool.{Bool}
 use mathlib.Core.List.{List, [], _++_}
 use Prim.Native.Nat.{ℕ, _+_, _*_, _/_, _≤_, _<_}
 use native.Mathlib.Omega.{arith}
-use lib.ListN.{length, getD, set, length-set}
-use lib.IntN.{ℤ, pos}
+use lib.ListN.{length, set, length-set}
+use lib.IntN.{ℤ}
 use Rattle.noise.specs.Noise.{tickedOf as noiseOf}
 use Rattle.soundram.specs.declared.Watch.{Watch}
 use Rattle.soundram.specs.Address.{Lent}
@@ -16,8 +16,7 @@ use Rattle.soundram.proofs.Times.{times-none, times-more, time-does}
 use Rattle.registers.specs.Map.{registerAt}
 use Rattle.voice.specs.declared.Voice.{Voice}
 use Rattle.voices.specs.Voices.{AllIn}
-use Rattle.chip.specs.declared.State.{State}
-use Rattle.chip.specs.State.{withVoices, watchOf, watchedOf}
+use Rattle.chip.specs.State.{State, withVoices, watchOf, watchedOf}
 use Rattle.chip.specs.Range.{InRange}
 use Rattle.tick.specs.declared.Rest.{Rest}
 use Rattle.tick.specs.declared.Going.{Going}
@@ -28,7 +27,7 @@ use Rattle.layout.specs.Layout.{stateOf, Formed, Holds}
 use Rattle.layout.proofs.Laws.{self-holds, holds-as}
 use Rattle.spu.specs.Step.{tickInto, chip}
 use Rattle.spu.proofs.Runs.{into-does}
-use Rattle.tick_runs.specs.Run.{PlaysAll, ticksOf, Runs}
+use Rattle.tick_runs.specs.Run.{PlaysAll, Runs}
 
 -- what was watched is no part of a state's ranges
 joined-in : (s : State) (vs : List Voice) (r : Rest) (v w : Watch) → InRange (joinOf s vs r v) → InRange (joinOf s vs r w)

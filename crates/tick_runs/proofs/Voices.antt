@@ -1,13 +1,13 @@
 -- The voices of a tick, which change in place. Assumes nothing.
-use mathlib.Core.Path.{_≡_, refl, sym, ap, _∙_}
+use mathlib.Core.Path.{_≡_, refl, _∙_}
 use mathlib.Core.Bool.{Bool, true, false, _&&_, not}
 use mathlib.Core.List.{List}
 use Prim.Native.Nat.{ℕ, _+_, _-_, _%_, _≤_, _<_}
 use native.Mathlib.Omega.{arith}
 use borrow.Author.Tests.{ltb-true}
 use lib.Dec.{ltb}
-use lib.ListN.{length, getD, set, length-set}
-use lib.Seq.{getD-set-same, set-set, set-getD}
+use lib.ListN.{length, set}
+use lib.Seq.{getD-set-same, set-getD}
 use lib.IntN.{ℤ, pos}
 use Rattle.fixed.proofs.Bools.{and-rest}
 use Rattle.envelope.specs.declared.Envelope.{Envelope}
@@ -30,8 +30,7 @@ use Rattle.voices.proofs.Turns.{Play, play-none, play-more, play-all}
 use Rattle.registers.specs.Map.{registerAt}
 use Rattle.chip.specs.declared.Control.{Control}
 use Rattle.chip.specs.declared.Reverb.{Reverb}
-use Rattle.chip.specs.declared.State.{State}
-use Rattle.chip.specs.State.{withVoices, watchOf}
+use Rattle.chip.specs.State.{State, withVoices, watchOf}
 use Rattle.chip.specs.Range.{PlaceIn}
 use Rattle.tick.specs.Run.{beginOf}
 use Rattle.layout.specs.Layout.{stateOf, voiceIn, Formed, Holds}

@@ -9,9 +9,8 @@ use Rattle.soundram.specs.Program.{Mem, Does, repeat}
 use Rattle.soundram.specs.Calls.{Times, startOf, timesOf}
 use Rattle.voice.specs.declared.Voice.{Voice}
 use Rattle.voice.specs.Voice.{tickOf}
-use Rattle.voices.specs.Voices.{settingsOf, noSums, mixedOf, voiceAt, AllIn}
-use Rattle.chip.specs.declared.State.{State}
-use Rattle.chip.specs.State.{withVoices}
+use Rattle.voices.specs.Voices.{settingsOf, noSums, mixedOf, voiceAt}
+use Rattle.chip.specs.State.{State, withVoices}
 use Rattle.layout.specs.Layout.{stateOf, voiceIn, Holds}
 use Rattle.layout.specs.Stores.{withVoice}
 use Rattle.spu.specs.Step.{tickInto, chip}

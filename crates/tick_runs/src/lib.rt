@@ -1,6 +1,6 @@
 // A run of ticks, on the buffer: the voices change in place, and what else a tick changes stays in locals from the first tick to the last.
 ghost use mathlib.Core.Path.{_≡_};
-ghost use Prim.Native.Nat.{_%_, _≤_, _<_};
+ghost use Prim.Native.Nat.{_%_, _<_};
 ghost use Rattle.envelope.specs.Adsr.{tickedOf};
 ghost use Rattle.gauss.specs.Gauss.{table as factors};
 ghost use Rattle.soundram.specs.Address.{Lent};
@@ -32,13 +32,13 @@ struct AllPlayed {
     watch: Watch,
 }
 
-// The ticks that raised the interrupt and the doubt, or as many as there were.
+// Which tick raised the interrupt and which the doubt; the number of ticks if none did.
 pub struct Reports {
     pub irq: usize,
     pub doubt: usize,
 }
 
-// Voice n that loads a block in its tick.
+// Voice n loads a block in its tick.
 fn play_load(
     table: &[i16; 512],
     regs: &[u16; 256],
@@ -192,7 +192,7 @@ fn begin(state: &[u16], regs: &[u16; 256], count: usize) -> Going
     }
 }
 
-// After it, what it changed besides the voices goes back.
+// Puts back what a run changed besides the voices.
 fn end(state: &mut [u16], r: Rest, w: Watch)
     requires { ⌜ Formed (now state) × (r .capture % 2 ≡ 0) × (r .reverb .place .0 % 2 ≡ 0) ⌝ }
     ensures { λ _. ⌜ Holds (now (state .exit)) (joinOf (stateOf (now (state .entry))) (stateOf (now (state .entry)) .voices) r w) ⌝ }
@@ -207,7 +207,7 @@ fn end(state: &mut [u16], r: Rest, w: Watch)
     layout::put_rest(state, noise, control, r.capture, reverb, r.tick);
 }
 
-// As many ticks as the buffer holds pairs.
+// One tick for each pair of the buffer out.
 pub fn run(
     state: &mut [u16],
     ram: &mut [u8],
@@ -242,7 +242,7 @@ pub fn run(
             g.watch,
         );
         let amplitudes = p.amplitudes;
-        let next = tick_end::finish(
+        let next = tick::finish(
             &regs,
             size,
             g,

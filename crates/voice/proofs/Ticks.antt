@@ -64,9 +64,6 @@ module _ (s : Settings) (below : ℤ) (v : Voice) {a : ℤ} {p : ℕ} {r : Moved
   unfolding steppedOf
   stepped-voice h = rw (h, g, q, b)
 
-  pub stepped-counter : r .counter ≡ movementOf s below v .counter
-  stepped-counter = rw (g, q, b)
-
   pub stepped-target : v .position .index + r .moves ≡ targetOf s below v
   unfolding targetOf
   stepped-target = rw (g, q, b)

@@ -1,27 +1,24 @@
 -- The voices one after the other. Assumes nothing.
 use mathlib.Core.Path.{_≡_, refl, sym, ap, subst, _∙_}
-use mathlib.Core.Bool.{Bool, true}
 use mathlib.Core.List.{List}
 use Prim.Native.Nat.{ℕ, zero, suc, _+_, _≤_, _<_}
 use native.Mathlib.Decide.{ℕ-discrete}
 use native.Mathlib.Numerals.{add-one}
 use native.Mathlib.Omega.{arith}
 use lib.ListN.{length, getD, set, length-set}
-use lib.Seq.{getD-set-same, getD-set-other, set-getD}
+use lib.Seq.{getD-set-same, getD-set-other}
 use lib.IntN.{ℤ, pos}
 use Rattle.soundram.specs.declared.Reader.{Reader}
 use Rattle.soundram.specs.Address.{Sized}
-use Rattle.soundram.specs.declared.Watch.{Watch}
-use Rattle.soundram.specs.Program.{Prog, Mem, memOf, run, Does, repeat}
+use Rattle.soundram.specs.Program.{Mem, Does, repeat}
 use Rattle.soundram.specs.TwoRuns.{Safe}
-use Rattle.soundram.proofs.Programs.{Always, ends, always-bind, does-done, does-give, does-bind, repeat-none, repeat-more, repeat-end}
+use Rattle.soundram.proofs.Programs.{Always, ends, always-bind, does-done, does-give, does-bind, repeat-none, repeat-more}
 use Rattle.soundram.proofs.TwoRuns.{safe-done, safe-bind, safe-repeat}
 use Rattle.voice.specs.declared.Voice.{Voice}
 use Rattle.voice.specs.declared.Settings.{Settings}
-use Rattle.voice.specs.Voice.{isIdle, tickOf}
+use Rattle.voice.specs.Voice.{tickOf}
 use Rattle.voice.specs.Range.{InRange}
 use Rattle.voice.proofs.Range.{tick-in, tick-range}
-use Rattle.voice.proofs.Ticks.{tick-idle}
 use Rattle.voice.proofs.Safe.{safe-tick}
 use Rattle.voices.specs.declared.Sums.{Sums}
 use Rattle.voices.specs.Voices.{settingsOf, addedOf, noSums, mixedOf, One, turnOf, Bank, pastEnd, voiceAt, AllIn}
@@ -100,12 +97,6 @@ module _ {size : ℕ} {regs : List ℕ} {level : ℕ} where
           does = repeat-more _ n _ _ _ (p .does) (voice-does size regs level n vs _ (turn-does size regs level n _ _ e (sym (p .below)) d q s));
         }
 
-    -- an idle voice stays as it is
-    pub play-idle : {i : Bool} → i ≡ isIdle (getD vs n pastEnd .envelope .phase) → i ≡ true → Play size regs level vs₀ m₀ (n + 1) vs (set hs n (pos 0)) (pos 0) m
-    play-idle j t =
-        subst (λ (us : List Voice). Play size regs level vs₀ m₀ (n + 1) us (set hs n (pos 0)) (pos 0) m) (set-getD vs n pastEnd)
-        (play-more refl (tick-idle _ _ _ _ _ _ j m t) refl)
-
   pub play-all : {vs₀ : List Voice} {m₀ : Mem} {n : ℕ} {vs : List Voice} {hs : List ℤ} {b : ℤ} {m : Mem} → Play size regs level vs₀ m₀ n vs hs b m → 24 ≤ n
       → Does (repeat (voiceAt size regs level) 24 (record { voices = vs₀; sums = noSums })) m₀ (record { voices = vs; sums = mixedOf regs hs 24 }) m
   play-all {vs₀} {m₀} {n} {vs} {hs} {m} p h =
@@ -113,17 +104,6 @@ module _ {size : ℕ} {regs : List ℕ} {level : ℕ} where
       subst
       (λ (k : ℕ). Does (repeat (voiceAt size regs level) k (record { voices = vs₀; sums = noSums })) m₀ (record { voices = vs; sums = mixedOf regs hs k }) m) e
       (p .does)
-
-still : {S : Type 0} (f : ℕ → S → Prog S) (s : S) {t : S} {m o : Mem} → Does (repeat f 0 s) m t o → (t ≡ s) × (o ≡ m)
-unfolding repeat run
-still f s d = (sym (ap (λ r. r .answer) (d .ran)), sym (ap (λ r. r .mem) (d .ran)))
-
--- before any voice has played
-pub play-before : {size : ℕ} {regs : List ℕ} {level : ℕ} {vs₀ : List Voice} {ram marks : List ℕ} {v w : Watch} {n : ℕ} {vs : List Voice} {hs : List ℤ} {b : ℤ} → Play size regs level vs₀ (memOf ram marks v) n vs hs b (memOf ram marks w)
-    → n ≡ 0 → (vs ≡ vs₀) × (w ≡ v)
-play-before p e =
-    let d = still _ _ (repeat-end _ _ 0 _ _ (p .does) (omega arith) (omega arith)) in
-    (ap (λ (b : Bank). b .voices) (d .0), ap (λ (m : Mem). m .watch) (d .1))
 
 -- ---- the voices' programs are safe, and keep them in range
 

@@ -1,4 +1,3 @@
-use mathlib.Core.Path.{ap}
 use Rattle.calls_state.proofs.Calls.{status-no, status-yes, good-length}
 use borrow.Author.Needs.{needs}
 use Rattle.calls_state.proofs.tenonwhisk_status.Statement.{statement}

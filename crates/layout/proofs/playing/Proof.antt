@@ -1,4 +1,3 @@
-use native.Mathlib.Omega.{arith}
 use Rattle.layout.proofs.Read.{flags-byte, playing-is}
 use borrow.Author.Needs.{needs}
 use Rattle.layout.proofs.playing.Statement.{statement}

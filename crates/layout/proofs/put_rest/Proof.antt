@@ -1,4 +1,4 @@
-use mathlib.Core.Path.{_≡_, ap, _∙_}
+use mathlib.Core.Path.{ap, _∙_}
 use mir.Val.{SFits}
 use mir.Syntax.{w16}
 use mir.Facts.{toZ-ofZ}

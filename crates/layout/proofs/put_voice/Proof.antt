@@ -1,6 +1,5 @@
 use mathlib.Core.Path.{ap, _∙_}
 use Prim.Native.Nat.{_≤_}
-use native.Mathlib.Omega.{arith}
 use lib.ListN.{length}
 use Rattle.layout.proofs.Laws.{words-length}
 use Rattle.layout.proofs.Put.{voice-holds}

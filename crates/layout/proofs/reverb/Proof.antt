@@ -1,5 +1,3 @@
-use mir.Syntax.{w16}
-use Rattle.fixed.proofs.Number.{passed}
 use Rattle.layout.proofs.Tail.{place-fits, reverb-is}
 use borrow.Author.Needs.{needs}
 use Rattle.layout.proofs.reverb.Statement.{statement}

@@ -3,7 +3,7 @@ use Prim.Native.Nat.{_-_, _≤_}
 use native.Mathlib.Omega.{arith}
 use borrow.Author.Needs.{needs}
 use Rattle.fixed.proofs.Loops.{to-end}
-use Rattle.ports.specs.Registers.{endFlags}
+use Rattle.chip.specs.Registers.{endFlags}
 use Rattle.layout.specs.Layout.{stateOf}
 use Rattle.register_read.proofs.Values.{flags-none, flags-more, flags-fit}
 use Rattle.register_read.proofs.end_flags.Statement.{statement}

@@ -1,5 +1,5 @@
 use native.Mathlib.Omega.{arith}
-use Rattle.ports.proofs.Parts.{listed-below, of-voice}
+use Rattle.chip.proofs.Registers.{listed-below, of-voice}
 use Rattle.register_read.proofs.Values.{read-level, read-repeat, read-ends, read-more-ends, read-status, read-left, read-right, read-kept}
 use borrow.Author.Needs.{needs}
 use Rattle.register_read.proofs.read.Statement.{statement}

@@ -1,4 +1,4 @@
-use Rattle.ports.proofs.Parts.{from-low}
+use Rattle.chip.proofs.Registers.{from-low}
 use Rattle.register_write.proofs.Work.{even-address, takes-voice, takes-repeat, takes-on, takes-off, takes-base, takes-transfer, takes-control, takes-none}
 use borrow.Author.Needs.{needs}
 use Rattle.register_write.proofs.effect.Statement.{statement}

@@ -1,6 +1,6 @@
 use mathlib.Core.Path.{refl}
 use native.Mathlib.Omega.{arith}
-use Rattle.ports.proofs.Parts.{listed-below}
+use Rattle.chip.proofs.Registers.{listed-below}
 use Rattle.register_write.proofs.Work.{still-sized, written-in}
 use borrow.Author.Needs.{needs}
 use Rattle.register_write.proofs.write.Statement.{statement}

@@ -12,17 +12,17 @@ least-requires c κs = search needs
 array-share-prefix-values : tie.Need-array-share-prefix-values
 array-share-prefix-values c = search needs
 
-slice-aggregate-transfer-in : tie.Need-slice-aggregate-transfer-in
-slice-aggregate-transfer-in c = search (part-of, needs)
+slice-aggregate-tenonwhisk-transfer-in : tie.Need-slice-aggregate-tenonwhisk-transfer-in
+slice-aggregate-tenonwhisk-transfer-in c = search (part-of, needs)
 
-transfer-in-requires : tie.Need-transfer-in-requires
-transfer-in-requires c κs = search needs
+tenonwhisk-transfer-in-requires : tie.Need-tenonwhisk-transfer-in-requires
+tenonwhisk-transfer-in-requires c κs = search needs
 
 inward-answer-requires : tie.Need-inward-answer-requires
 inward-answer-requires c κs = search needs
 
-changed-requires : tie.Need-changed-requires
-changed-requires c κs = search needs
+placed-requires : tie.Need-placed-requires
+placed-requires c κs = search needs
 
 same-length : tie.Need-same-length
 same-length c = search needs
@@ -32,6 +32,9 @@ same-length-2 c = search needs
 
 same-length-3 : tie.Need-same-length-3
 same-length-3 c = search needs
+
+same-length-4 : tie.Need-same-length-4
+same-length-4 c = search needs
 
 returns : tie.Need-returns
 returns c = search needs
@@ -43,11 +46,12 @@ inward-spec =
     values-requires
     least-requires
     array-share-prefix-values
-    slice-aggregate-transfer-in
-    transfer-in-requires
+    slice-aggregate-tenonwhisk-transfer-in
+    tenonwhisk-transfer-in-requires
     inward-answer-requires
-    changed-requires
+    placed-requires
     same-length
     same-length-2
     same-length-3
+    same-length-4
     returns)

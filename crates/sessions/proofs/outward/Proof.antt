@@ -18,6 +18,9 @@ outward-into-requires c κs = search needs
 same-length : tie.Need-same-length
 same-length c = search needs
 
+same-length-2 : tie.Need-same-length-2
+same-length-2 c = search needs
+
 returns : tie.Need-returns
 returns c = search needs
 
@@ -30,4 +33,5 @@ outward-spec =
     slice-aggregate-outward-into
     outward-into-requires
     same-length
+    same-length-2
     returns)

@@ -5,10 +5,10 @@ use Rattle.sessions.proofs.pieces.Statement.{statement}
 use Rattle.sessions.proofs.pieces.Tie as tie
 
 abbrev Inv-loop : tie.InvT-loop
-Inv-loop ram₀ marks₀ out₀ input₀ r₀ turns₀ ram marks out input r turns = (length ram ≡ length ram₀) × (length marks ≡ length marks₀) × (length out ≡ length out₀) × (length input ≡ length input₀)
+Inv-loop state₀ ram₀ marks₀ out₀ input₀ r₀ turns₀ state ram marks out input r turns = (length state ≡ length state₀) × (length ram ≡ length ram₀) × (length marks ≡ length marks₀) × (length out ≡ length out₀) × (length input ≡ length input₀)
 
 abbrev μ-loop : tie.MeasureT-loop
-μ-loop ram₀ marks₀ out₀ input₀ r₀ turns₀ ram marks out input r turns = turns
+μ-loop state₀ ram₀ marks₀ out₀ input₀ r₀ turns₀ state ram marks out input r turns = turns
 
 unread-requires : tie.Need-unread-requires Inv-loop μ-loop
 unread-requires c κs = search needs
@@ -28,6 +28,9 @@ same-length-3 c = search needs
 same-length-4 : tie.Need-same-length-4 Inv-loop μ-loop
 same-length-4 c = search needs
 
+same-length-5 : tie.Need-same-length-5 Inv-loop μ-loop
+same-length-5 c = search needs
+
 returns : tie.Need-returns Inv-loop μ-loop
 returns c = search needs
 
@@ -43,9 +46,6 @@ loop-less c = search needs
 loop-again : tie.Need-loop-again Inv-loop μ-loop
 loop-again c = search needs
 
-same-length-5 : tie.Need-same-length-5 Inv-loop μ-loop
-same-length-5 c = search needs
-
 same-length-6 : tie.Need-same-length-6 Inv-loop μ-loop
 same-length-6 c = search needs
 
@@ -54,6 +54,12 @@ same-length-7 c = search needs
 
 same-length-8 : tie.Need-same-length-8 Inv-loop μ-loop
 same-length-8 c = search needs
+
+same-length-9 : tie.Need-same-length-9 Inv-loop μ-loop
+same-length-9 c = search needs
+
+same-length-10 : tie.Need-same-length-10 Inv-loop μ-loop
+same-length-10 c = search needs
 
 returns-2 : tie.Need-returns-2 Inv-loop μ-loop
 returns-2 c = search needs
@@ -70,13 +76,15 @@ pieces-spec =
     same-length-2
     same-length-3
     same-length-4
+    same-length-5
     returns
     piece-requires
     sub-turns
     loop-less
     loop-again
-    same-length-5
     same-length-6
     same-length-7
     same-length-8
+    same-length-9
+    same-length-10
     returns-2)

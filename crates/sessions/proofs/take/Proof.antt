@@ -5,10 +5,10 @@ use Rattle.sessions.proofs.take.Statement.{statement}
 use Rattle.sessions.proofs.take.Tie as tie
 
 abbrev Inv-loop : tie.InvT-loop
-Inv-loop ram₀ marks₀ out₀ input t₀ most₀ ram marks out t most = (length ram ≡ length ram₀) × (length marks ≡ length marks₀) × (length out ≡ length out₀)
+Inv-loop state₀ ram₀ marks₀ out₀ input t₀ most₀ state ram marks out t most = (length state ≡ length state₀) × (length ram ≡ length ram₀) × (length marks ≡ length marks₀) × (length out ≡ length out₀)
 
 abbrev μ-loop : tie.MeasureT-loop
-μ-loop ram₀ marks₀ out₀ input t₀ most₀ ram marks out t most = most
+μ-loop state₀ ram₀ marks₀ out₀ input t₀ most₀ state ram marks out t most = most
 
 loop-holds : tie.Need-loop-holds Inv-loop μ-loop
 loop-holds c = search needs
@@ -21,6 +21,9 @@ same-length-2 c = search needs
 
 same-length-3 : tie.Need-same-length-3 Inv-loop μ-loop
 same-length-3 c = search needs
+
+same-length-4 : tie.Need-same-length-4 Inv-loop μ-loop
+same-length-4 c = search needs
 
 returns : tie.Need-returns Inv-loop μ-loop
 returns c = search needs
@@ -37,14 +40,17 @@ loop-less c = search needs
 loop-again : tie.Need-loop-again Inv-loop μ-loop
 loop-again c = search needs
 
-same-length-4 : tie.Need-same-length-4 Inv-loop μ-loop
-same-length-4 c = search needs
-
 same-length-5 : tie.Need-same-length-5 Inv-loop μ-loop
 same-length-5 c = search needs
 
 same-length-6 : tie.Need-same-length-6 Inv-loop μ-loop
 same-length-6 c = search needs
+
+same-length-7 : tie.Need-same-length-7 Inv-loop μ-loop
+same-length-7 c = search needs
+
+same-length-8 : tie.Need-same-length-8 Inv-loop μ-loop
+same-length-8 c = search needs
 
 returns-2 : tie.Need-returns-2 Inv-loop μ-loop
 returns-2 c = search needs
@@ -59,12 +65,14 @@ take-spec =
     same-length
     same-length-2
     same-length-3
+    same-length-4
     returns
     step-requires
     sub-most
     loop-less
     loop-again
-    same-length-4
     same-length-5
     same-length-6
+    same-length-7
+    same-length-8
     returns-2)

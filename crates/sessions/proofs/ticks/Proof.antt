@@ -6,10 +6,10 @@ use Rattle.sessions.proofs.ticks.Statement.{statement}
 use Rattle.sessions.proofs.ticks.Tie as tie
 
 abbrev Inv-loop : tie.InvT-loop
-Inv-loop ram₀ marks₀ out₀ floats count left right t₀ k₀ ram marks out t k = (k ≤ count) × (length ram ≡ length ram₀) × (length marks ≡ length marks₀) × (length out ≡ length out₀)
+Inv-loop state₀ ram₀ marks₀ out₀ floats count left right t₀ k₀ state ram marks out t k = (k ≤ count) × (length state ≡ length state₀) × (length ram ≡ length ram₀) × (length marks ≡ length marks₀) × (length out ≡ length out₀)
 
 abbrev μ-loop : tie.MeasureT-loop
-μ-loop ram₀ marks₀ out₀ floats count left right t₀ k₀ ram marks out t k = count - k
+μ-loop state₀ ram₀ marks₀ out₀ floats count left right t₀ k₀ state ram marks out t k = count - k
 
 loop-holds : tie.Need-loop-holds Inv-loop μ-loop
 loop-holds c = search needs
@@ -35,6 +35,9 @@ same-length-2 c = search needs
 same-length-3 : tie.Need-same-length-3 Inv-loop μ-loop
 same-length-3 c = search needs
 
+same-length-4 : tie.Need-same-length-4 Inv-loop μ-loop
+same-length-4 c = search needs
+
 returns : tie.Need-returns Inv-loop μ-loop
 returns c = search needs
 
@@ -52,4 +55,5 @@ ticks-spec =
     same-length
     same-length-2
     same-length-3
+    same-length-4
     returns)
