@@ -6,8 +6,6 @@ use Rattle.fixed.proofs.Bools.{all-none, all-more, all-tested}
 use Rattle.range_check.specs.Voices.{fieldsOk}
 use Rattle.range_check.proofs.fields.Statement.{statement}
 use Rattle.range_check.proofs.fields.Tie as tie
-use Rattle.range_check.proofs.fields.Reads as reads
-use Rattle.range_check.proofs.fields.Lts as lts
 
 abbrev Inv-loop : tie.InvT-loop
 Inv-loop state last ok₀ n₀ ok n = (n ≤ 24) × (ok ≡ allBelow n (fieldsOk state last))
@@ -15,119 +13,90 @@ Inv-loop state last ok₀ n₀ ok n = (n ≤ 24) × (ok ≡ allBelow n (fieldsOk
 abbrev μ-loop : tie.MeasureT-loop
 μ-loop state last ok₀ n₀ ok n = 24 - n
 
--- src/lib.rt:36:5
 loop-holds : tie.Need-loop-holds Inv-loop μ-loop
 loop-holds c = (search needs, all-none _)
 
--- src/lib.rt:38:23
 add-ok : tie.Need-add-ok Inv-loop μ-loop
 add-ok c = search needs
 
--- src/lib.rt:38:17
 mul-ok : tie.Need-mul-ok Inv-loop μ-loop
 mul-ok c = search needs
 
--- src/lib.rt:38:17
 shared-slice-read-ok : tie.Need-shared-slice-read-ok Inv-loop μ-loop
 shared-slice-read-ok c = search needs
 
--- src/lib.rt:39:27
 add-ok-2 : tie.Need-add-ok-2 Inv-loop μ-loop
 add-ok-2 c = search needs
 
--- src/lib.rt:39:21
 mul-ok-2 : tie.Need-mul-ok-2 Inv-loop μ-loop
 mul-ok-2 c = search needs
 
--- src/lib.rt:39:21
 shared-slice-read-ok-2 : tie.Need-shared-slice-read-ok-2 Inv-loop μ-loop
 shared-slice-read-ok-2 c = search needs
 
--- src/lib.rt:40:31
 add-ok-3 : tie.Need-add-ok-3 Inv-loop μ-loop
 add-ok-3 c = search needs
 
--- src/lib.rt:40:25
 mul-ok-3 : tie.Need-mul-ok-3 Inv-loop μ-loop
 mul-ok-3 c = search needs
 
--- src/lib.rt:40:25
 shared-slice-read-ok-3 : tie.Need-shared-slice-read-ok-3 Inv-loop μ-loop
 shared-slice-read-ok-3 c = search needs
 
--- src/lib.rt:41:35
 add-ok-4 : tie.Need-add-ok-4 Inv-loop μ-loop
 add-ok-4 c = search needs
 
--- src/lib.rt:41:29
 mul-ok-4 : tie.Need-mul-ok-4 Inv-loop μ-loop
 mul-ok-4 c = search needs
 
--- src/lib.rt:41:29
 shared-slice-read-ok-4 : tie.Need-shared-slice-read-ok-4 Inv-loop μ-loop
 shared-slice-read-ok-4 c = search needs
 
--- src/lib.rt:42:39
 add-ok-5 : tie.Need-add-ok-5 Inv-loop μ-loop
 add-ok-5 c = search needs
 
--- src/lib.rt:42:33
 mul-ok-5 : tie.Need-mul-ok-5 Inv-loop μ-loop
 mul-ok-5 c = search needs
 
--- src/lib.rt:42:33
 shared-slice-read-ok-5 : tie.Need-shared-slice-read-ok-5 Inv-loop μ-loop
 shared-slice-read-ok-5 c = search needs
 
--- src/lib.rt:43:43
 add-ok-6 : tie.Need-add-ok-6 Inv-loop μ-loop
 add-ok-6 c = search needs
 
--- src/lib.rt:43:37
 mul-ok-6 : tie.Need-mul-ok-6 Inv-loop μ-loop
 mul-ok-6 c = search needs
 
--- src/lib.rt:43:37
 shared-slice-read-ok-6 : tie.Need-shared-slice-read-ok-6 Inv-loop μ-loop
 shared-slice-read-ok-6 c = search needs
 
--- src/lib.rt:44:47
 add-ok-7 : tie.Need-add-ok-7 Inv-loop μ-loop
 add-ok-7 c = search needs
 
--- src/lib.rt:44:41
 mul-ok-7 : tie.Need-mul-ok-7 Inv-loop μ-loop
 mul-ok-7 c = search needs
 
--- src/lib.rt:44:41
 shared-slice-read-ok-7 : tie.Need-shared-slice-read-ok-7 Inv-loop μ-loop
 shared-slice-read-ok-7 c = search needs
 
--- src/lib.rt:45:50
 add-ok-8 : tie.Need-add-ok-8 Inv-loop μ-loop
 add-ok-8 c = search needs
 
--- src/lib.rt:45:44
 mul-ok-8 : tie.Need-mul-ok-8 Inv-loop μ-loop
 mul-ok-8 c = search needs
 
--- src/lib.rt:45:44
 shared-slice-read-ok-8 : tie.Need-shared-slice-read-ok-8 Inv-loop μ-loop
 shared-slice-read-ok-8 c = search needs
 
--- src/lib.rt:36:9
 add-n : tie.Need-add-n Inv-loop μ-loop
 add-n c = search needs
 
--- src/lib.rt:36:5
 loop-less : tie.Need-loop-less Inv-loop μ-loop
 loop-less c = search needs
 
--- src/lib.rt:36:5
 loop-again : tie.Need-loop-again Inv-loop μ-loop
-loop-again c = (search needs, all-more _ _ (c .before .before .loop .inv .1) refl)
+loop-again c = (search needs, all-more _ _ (c .before .before .before .before .before .before .before .before .before .loop .inv .1) refl)
 
--- src/lib.rt:31:1
 returns : tie.Need-returns Inv-loop μ-loop
 returns c = let v = c .before .loop .inv in all-tested _ _ _ (v .1) (v .0) (c .loop-test .left)
 
