@@ -121,8 +121,8 @@ module _ (xs : List ℕ) (offset : ℕ) {n : ℕ} (e : n ≡ numberIn (read offs
   unfolding numberOf
   read-listed z = not-false _ (passed-first _ 2 _ (passed-rest _ 1 _ (sym (accepted-number (read offset) xs 0 0 e z))))
 
-  pub read-ready : n ≡ 0 → (length xs ≡ stateLength) × (listed offset ≡ true)
-  read-ready z = (state-formed xs (accepted-state (read offset) xs 0 0 e z) .size, read-listed z)
+  pub read-ready : n ≡ 0 → Formed xs × (listed offset ≡ true)
+  read-ready z = (state-formed xs (accepted-state (read offset) xs 0 0 e z), read-listed z)
 
 -- ---- status and reset, whose number is the state's
 

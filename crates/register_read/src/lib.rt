@@ -2,31 +2,28 @@
 ghost use mathlib.Core.Path.{_≡_};
 ghost use mathlib.Core.Bool.{true, cond};
 ghost use Prim.Native.Nat.{_+_, _^_, _≤_, _<_};
-ghost use lib.Dec.{leb};
+ghost use lib.Dec.{eqb, leb};
 ghost use lib.ListN.{length};
 ghost use Rattle.registers.specs.Offsets.{listed as listedAt};
 ghost use Rattle.chip.specs.Registers.{endFlags, statusOf, doubled as doubledAt, readOf};
-ghost use Rattle.layout.specs.Layout.{stateLength, stateOf, voiceIn};
+ghost use Rattle.layout.specs.Layout.{stateLength, stateOf, voiceIn, Formed};
 
-// A voice's end flag, as bit k.
-fn end_flag(ended: bool, k: usize) -> u16
-    requires { ⌜ k < 16 ⌝ }
-    ensures { λ r. ⌜ r ≡ cond ended (2 ^ k) 0 ⌝ }
+// A voice's end flag, 0 or 1, as bit k.
+fn end_flag(ended: u16, k: usize) -> u16
+    requires { ⌜ (ended ≤ 1) × (k < 16) ⌝ }
+    ensures { λ r. ⌜ r ≡ cond (eqb ended 1) (2 ^ k) 0 ⌝ }
 {
-    if ended {
-        return 1 << k;
-    }
-    0
+    ended << k
 }
 
 // The end flags of count voices from first on.
 fn end_flags(state: &[u16], first: usize, count: usize) -> u16
-    requires { ⌜ (first + count ≤ 24) × (count ≤ 16) × (length (now state) ≡ stateLength) ⌝ }
+    requires { ⌜ (first + count ≤ 24) × (count ≤ 16) × Formed (now state) ⌝ }
     ensures { λ r. ⌜ r ≡ endFlags (stateOf (now (state .entry)) .voices) first count ⌝ }
 {
     let mut flags = 0u16;
     for k in 0..count {
-        flags = flags + end_flag(state[layout::ENDED + first + k] == 1, k);
+        flags = flags + end_flag(state[layout::ENDED + (first + k)], k);
     }
     flags
 }
@@ -79,7 +76,7 @@ fn repeat(state: &[u16], n: usize) -> u16
 
 // A register read that is not refused.
 pub fn read(state: &[u16], offset: u32) -> u16
-    requires { ⌜ (length (now state) ≡ stateLength) × (listedAt offset ≡ true) ⌝ }
+    requires { ⌜ Formed (now state) × (listedAt offset ≡ true) ⌝ }
     ensures { λ r. ⌜ r ≡ readOf (stateOf (now (state .entry))) offset ⌝ }
 {
     let n = (offset / 16) as usize;

@@ -1,4 +1,4 @@
-use Rattle.register_read.proofs.Values.{flag-set}
+use Rattle.register_read.proofs.Values.{flag-shl}
 use borrow.Author.Needs.{needs}
 use Rattle.register_read.proofs.end_flag.Statement.{statement}
 use Rattle.register_read.proofs.end_flag.Tie as tie
@@ -10,10 +10,7 @@ shl-result : tie.Need-shl-result
 shl-result c = search needs
 
 returns : tie.Need-returns
-returns c = flag-set (c .before .args .ended) (c .before .args .k) (c .if1 .taken) (c .before .pre)
-
-returns-2 : tie.Need-returns-2
-returns-2 c = search needs
+returns c = flag-shl (c .args .ended) (c .args .k) (c .pre .0) (c .pre .1)
 
 pub end-flag-spec : {M : Type 1} → statement M
-end-flag-spec = tie.close (tie.spec cast-result shl-result returns returns-2)
+end-flag-spec = tie.close (tie.spec cast-result shl-result returns)
