@@ -1,10 +1,10 @@
 -- The tests of a state, as the code makes them: the voices array by array, and the rest. Assumes nothing.
 use mathlib.Core.Path.{_≡_, refl, sym, ap, _∙_}
-use mathlib.Core.Bool.{Bool, true, false, not, _&&_, _||_, and-assoc, and-comm, and-true, and-false, false≢true}
+use mathlib.Core.Bool.{Bool, true, false, not, _&&_, _||_, and-assoc, and-comm, and-true, and-false}
 use mathlib.Core.List.{List, [], _∷_, _++_}
 use Prim.Native.Nat.{ℕ, zero, suc, _+_, _-_, _*_, _/_, _%_, _≤_, _<_}
 use native.Mathlib.Omega.{arith}
-use mathlib.Core.Logic.{_⊎_, inl, inr, ⊎-elim}
+use mathlib.Core.Logic.{_⊎_, inl, inr}
 use borrow.Author.Tests.{not-true, not-false, leb-true, le-leb, eq-eqb, ne-eqb, eqb-true}
 use lib.Bits.{bitAnd, and-mask}
 use lib.Dec.{leb, ltb, eqb}
@@ -16,7 +16,7 @@ use Rattle.envelope.specs.Adsr.{active}
 use Rattle.noise.specs.declared.Noise.{Noise}
 use Rattle.soundram.specs.Address.{addressOf}
 use Rattle.chip.specs.State.{allOf, sizeOk, voiceOk, everyOk, baseOf, stateOk}
-use Rattle.chip.proofs.Tests.{sized, tested-size}
+use Rattle.chip.proofs.Tests.{sized}
 use Rattle.layout.specs.Layout.{listOf, every, rowOf, partsOf, place, wide, phaseOf, voiceFrom, stateOf, voiceIn, isTagged, isRow, isTail, areParts, isWellFormed, isState, stateLength, tag, version}
 use Rattle.layout.proofs.Laws.{row-at, voice-at}
 use Rattle.layout.proofs.Read.{phase-is}
@@ -39,16 +39,13 @@ swap false b c = sym (and-false b)
 
 -- ---- L and its last unit
 
-pub sizes : (size : ℕ) → sizeOk size ≡ true → (size ≡ 0x10000) ⊎ (size ≡ 0x80000)
+sizes : (size : ℕ) → sizeOk size ≡ true → (size ≡ 0x10000) ⊎ (size ≡ 0x80000)
 unfolding sizeOk
 sizes size e = by (eqb size 0x10000) refl e
   where
     by : (b : Bool) → eqb size 0x10000 ≡ b → (b || eqb size 0x80000) ≡ true → (size ≡ 0x10000) ⊎ (size ≡ 0x80000)
     by true p e = inl (eqb-true size 0x10000 p)
     by false p e = inr (eqb-true size 0x80000 e)
-
-pub last-small : (size : ℕ) → (size ≡ 0x80000 → ⊥) → sizeOk size ≡ true → 0x10000 ≡ size
-last-small size n e = ⊎-elim (λ p. sym p) (λ p. absurd (n p)) (sizes size e)
 
 -- a unit's number, as far as L goes, is the rest of its bits
 pub unit-within : (last unit : ℕ) → unit < 0x10000 → sizeOk ((last + 1) * 8) ≡ true → bitAnd unit last * 4 * 2 ≡ addressOf ((last + 1) * 8) (record { 0 = unit }) .0
@@ -157,17 +154,17 @@ module _ (xs : List ℕ) where
       → baseOf (stateOf xs) .0 ≡ b * 2
   base-at last b e f g = sym (rw (← register-is xs 0x1A2 (omega arith), ← e, ← f) g)
 
-  pub rest-tested : (last b : ℕ) {size p t m : ℕ} → size ≡ stateOf xs .choices .size → (sizeOk size ≡ true → (last + 1) * 8 ≡ size)
+  pub rest-tested : (last b : ℕ) {size p t m : ℕ} → size ≡ stateOf xs .choices .size → sizeOk size ≡ true → (last + 1) * 8 ≡ size
       → (sizeOk ((last + 1) * 8) ≡ true → b * 2 ≡ addressOf ((last + 1) * 8) (record { 0 = getD xs 213 0 }) .0) → p ≡ wide (getD xs 1275 0) (getD xs 1276 0)
-      → t ≡ wide (getD xs 1282 0) (getD xs 1283 0) → m ≡ wide (getD xs 1269 0) (getD xs 1270 0) → sizeOk size ≡ true
+      → t ≡ wide (getD xs 1282 0) (getD xs 1283 0) → m ≡ wide (getD xs 1269 0) (getD xs 1270 0)
       → ((leb (getD xs 1272 0) 1 && (leb (getD xs 1273 0) 1 && (leb (getD xs 1277 0) 1 && (ltb (getD xs 1274 0) 0x200
       && (leb b p && (ltb p (size / 2) && (ltb t (size / 2) && leb m 0x20000))))))) && everyOk size (stateOf xs .voices) 24)
       ≡ (isTail (partsOf xs .tail) && stateOk (stateOf xs))
   unfolding isTail stateOk allOf
-  rest-tested last b {size} {p} {t} {m} e f g ep et em k =
+  rest-tested last b {size} {p} {t} {m} e k f g ep et em =
       let z = sized size k in
       rw (
-        base-at last b e (f k) (g (rw (f k) k)),
+        base-at last b e f (g (rw f k)),
         ← e,
         k,
         capture-at xs,
@@ -202,33 +199,29 @@ unfolding isTagged allOf
 tag-tested xs h = rw (eq-eqb (length xs) stateLength h, and-true (eqb (getD xs 1 0) version))
 
 -- a is the test of all but the voices, b that of the voices
-state-tested : (xs : List ℕ) (last : ℕ) (a : Bool) {size : ℕ} {z b : Bool} → isTagged xs ≡ true → size ≡ stateOf xs .choices .size → (sizeOk size ≡ true → (last + 1) * 8 ≡ size) → z ≡ sizeOk size
-    → (sizeOk size ≡ true → (a && everyOk size (stateOf xs .voices) 24) ≡ (isTail (partsOf xs .tail) && stateOk (stateOf xs)))
-    → b ≡ (every isRow (partsOf xs .rows) && everyOk ((last + 1) * 8) (stateOf xs .voices) 24) → (z && (a && b)) ≡ isState xs
-unfolding isState isWellFormed areParts
-state-tested xs last a {size} {z} {b} t e f ez ea eb = by z refl
-  where
-    by : (y : Bool) → z ≡ y → (y && (a && b)) ≡ ((isTagged xs && (every isRow (partsOf xs .rows) && isTail (partsOf xs .tail))) && stateOk (stateOf xs))
-    by true q =
-        let k = sym ez ∙ q in
-        rw (eb, f k, t, and-assoc (every isRow (partsOf xs .rows)) (isTail (partsOf xs .tail)) (stateOk (stateOf xs)), ← ea k)
-        (swap a (every isRow (partsOf xs .rows)) (everyOk size (stateOf xs .voices) 24))
-    by false q = rw (← tested-size (stateOf xs) {z = z} (rw (← e) ez) (ap not q), and-false (isTagged xs && (every isRow (partsOf xs .rows) && isTail (partsOf xs .tail))))
+module _ (xs : List ℕ) (last : ℕ) (a : Bool) {size : ℕ} (t : isTagged xs ≡ true) (f : (last + 1) * 8 ≡ size) (ea : (a && everyOk size (stateOf xs .voices) 24) ≡ (isTail (partsOf xs .tail) && stateOk (stateOf xs))) where
+  state-tested : {b : Bool} → b ≡ (every isRow (partsOf xs .rows) && everyOk ((last + 1) * 8) (stateOf xs .voices) 24) → (a && b) ≡ isState xs
+  unfolding isState isWellFormed areParts
+  state-tested eb =
+      rw (eb, f, t, and-assoc (every isRow (partsOf xs .rows)) (isTail (partsOf xs .tail)) (stateOk (stateOf xs)), ← ea)
+      (swap a (every isRow (partsOf xs .rows)) (everyOk size (stateOf xs .voices) 24))
 
--- all but the voices is tested before them
-both-no : (z a b : Bool) → not (z && a) ≡ true → false ≡ (z && (a && b))
-both-no true false b t = refl
-both-no true true b t = absurd (false≢true t)
-both-no false a b t = refl
+  pub rest-no : not a ≡ true → false ≡ isState xs
+  rest-no n = ap (λ x. x && (every isRow (partsOf xs .rows) && everyOk ((last + 1) * 8) (stateOf xs .voices) 24)) (sym (not-true a n)) ∙ state-tested refl
 
-both-yes : (z a b : Bool) → not (z && a) ≡ false → b ≡ (z && (a && b))
-both-yes true true b t = refl
-both-yes true false b t = absurd (false≢true (sym t))
-both-yes false a b t = absurd (false≢true (sym t))
+  pub rest-yes : {b : Bool} → not a ≡ false → b ≡ (every isRow (partsOf xs .rows) && everyOk ((last + 1) * 8) (stateOf xs .voices) 24) → b ≡ isState xs
+  rest-yes {b} n eb = ap (λ x. x && b) (sym (not-false a n)) ∙ state-tested eb
 
-module _ (xs : List ℕ) (last : ℕ) (a : Bool) {size : ℕ} (z : Bool) (t : isTagged xs ≡ true) (e : size ≡ stateOf xs .choices .size) (f : sizeOk size ≡ true → (last + 1) * 8 ≡ size) (ez : z ≡ sizeOk size) (ea : sizeOk size ≡ true → (a && everyOk size (stateOf xs .voices) 24) ≡ (isTail (partsOf xs .tail) && stateOk (stateOf xs))) where
-  pub state-no : not (z && a) ≡ true → false ≡ isState xs
-  state-no n = both-no z a _ n ∙ state-tested xs last a t e f ez ea refl
+-- ---- the two sizes
 
-  pub state-yes : not (z && a) ≡ false → {b : Bool} → b ≡ (every isRow (partsOf xs .rows) && everyOk ((last + 1) * 8) (stateOf xs .voices) 24) → b ≡ isState xs
-  state-yes n {b} eb = both-yes z a b n ∙ state-tested xs last a t e f ez ea eb
+pub size-large : (size : ℕ) → size ≡ 0x80000 → sizeOk size ≡ true
+unfolding sizeOk
+size-large size e = rw e
+
+pub size-small : (size : ℕ) → size ≡ 0x10000 → sizeOk size ≡ true
+unfolding sizeOk
+size-small size e = rw e
+
+pub size-other : (xs : List ℕ) {size : ℕ} → size ≡ stateOf xs .choices .size → (size ≡ 0x80000 → ⊥) → (size ≡ 0x10000 → ⊥) → false ≡ isState xs
+unfolding isState stateOk allOf sizeOk
+size-other xs {size} e l m = rw (← e, ne-eqb size 0x10000 m, ne-eqb size 0x80000 l, and-false (isWellFormed xs))

@@ -1,9 +1,8 @@
 // Whether the state in a lent buffer is in range, tested where it stands: one loop over the voices' arrays, which the compiler turns into tests of eight voices at a time.
 ghost use mathlib.Core.Path.{_≡_};
 ghost use mathlib.Core.Bool.{true, _&&_};
-ghost use Prim.Native.Nat.{_+_, _*_, _≤_};
-ghost use lib.Dec.{leb};
-ghost use lib.ListN.{length, getD};
+ghost use Prim.Native.Nat.{_+_, _*_};
+ghost use lib.ListN.{length};
 ghost use Rattle.fixed.specs.Tests.{allBelow};
 ghost use Rattle.soundram.specs.Address.{addressOf};
 ghost use Rattle.chip.specs.State.{sizeOk, everyOk, stateOk};
@@ -72,16 +71,6 @@ fn voices(state: &[u16], last: u16) -> bool
     waits(state)
 }
 
-// The last unit of a sound RAM of one of the two sizes.
-fn last_unit(size: u32) -> u16
-    ensures { λ r. ⌜ (sizeOk size ≡ true → (r + 1) * 8 ≡ size) ⌝ }
-{
-    if size == 0x80000 {
-        return 0xFFFF;
-    }
-    0x1FFF
-}
-
 // The number of a unit's first halfword, in a sound RAM whose last unit is last.
 fn halfword_of(last: u16, unit: u16) -> u32
     ensures { λ r. ⌜ (sizeOk ((last + 1) * 8) ≡ true → r * 2 ≡ addressOf ((last + 1) * 8) (record { 0 = unit }) .0) ⌝ }
@@ -91,8 +80,8 @@ fn halfword_of(last: u16, unit: u16) -> u32
 
 // All but the voices.
 fn rest(state: &[u16], size: u32, last: u16) -> bool
-    requires { ⌜ (length (now state) ≡ stateLength) × (size ≡ stateOf (now state) .choices .size) × (sizeOk size ≡ true → (last + 1) * 8 ≡ size) ⌝ }
-    ensures { λ r. ⌜ (sizeOk size ≡ true → (r && everyOk size (stateOf (now (state .entry)) .voices) 24) ≡ (isTail (partsOf (now (state .entry)) .tail) && stateOk (stateOf (now (state .entry))))) ⌝ }
+    requires { ⌜ (length (now state) ≡ stateLength) × (size ≡ stateOf (now state) .choices .size) × (sizeOk size ≡ true) × ((last + 1) * 8 ≡ size) ⌝ }
+    ensures { λ r. ⌜ (r && everyOk size (stateOf (now (state .entry)) .voices) 24) ≡ (isTail (partsOf (now (state .entry)) .tail) && stateOk (stateOf (now (state .entry)))) ⌝ }
 {
     let base = halfword_of(last, state[layout::REGISTERS + 0xD1]);
     let end = size / 2;
@@ -107,15 +96,28 @@ fn rest(state: &[u16], size: u32, last: u16) -> bool
                         & ((place < end) & ((transfer < end) & (timer <= 0x20000)))))))
 }
 
+// Whether every field is in range, in a sound RAM of size bytes whose last unit is last.
+fn ranges(state: &[u16], size: u32, last: u16) -> bool
+    requires { ⌜ (isTagged (now state) ≡ true) × (size ≡ stateOf (now state) .choices .size) × (sizeOk size ≡ true) × ((last + 1) * 8 ≡ size) ⌝ }
+    ensures { λ r. ⌜ r ≡ isState (now (state .entry)) ⌝ }
+{
+    if !rest(state, size, last) {
+        return false;
+    }
+    voices(state, last)
+}
+
 // Whether a state stands in a buffer with its tag, every field within its range.
 pub fn check(state: &[u16]) -> bool
     requires { ⌜ isTagged (now state) ≡ true ⌝ }
     ensures { λ r. ⌜ r ≡ isState (now (state .entry)) ⌝ }
 {
     let size = layout::size(state);
-    let last = last_unit(size);
-    if !(size_ok(size) & rest(state, size, last)) {
-        return false;
+    if size == 0x80000 {
+        return ranges(state, size, 0xFFFF);
     }
-    voices(state, last)
+    if size == 0x10000 {
+        return ranges(state, size, 0x1FFF);
+    }
+    false
 }

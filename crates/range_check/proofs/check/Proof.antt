@@ -1,5 +1,6 @@
+use native.Mathlib.Omega.{arith}
 use Rattle.layout.proofs.Laws.{tagged-length}
-use Rattle.range_check.proofs.Tests.{state-no, state-yes}
+use Rattle.range_check.proofs.Tests.{size-large, size-small, size-other}
 use borrow.Author.Needs.{needs}
 use Rattle.range_check.proofs.check.Statement.{statement}
 use Rattle.range_check.proofs.check.Tie as tie
@@ -7,32 +8,20 @@ use Rattle.range_check.proofs.check.Tie as tie
 size-requires : tie.Need-size-requires
 size-requires c κs = search (tagged-length, needs)
 
-last-unit-requires : tie.Need-last-unit-requires
-last-unit-requires c κs = search needs
-
-size-ok-requires : tie.Need-size-ok-requires
-size-ok-requires c κs = search needs
-
-rest-requires : tie.Need-rest-requires
-rest-requires c κs = (tagged-length _ (c .before .before .before .before .pre), c .before .before .size .ensures, c .before .last-unit .ensures)
+ranges-requires : tie.Need-ranges-requires
+ranges-requires c κs = let e = c .if1 .taken in (c .before .before .before .pre, c .before .size .ensures, size-large _ e, omega arith)
 
 returns : tie.Need-returns
-returns c = state-no _ _ (c .before .rest .result) _ (c .before .before .before .before .before .before .pre) (c .before .before .before .before .size .ensures) (c .before .before .before .last-unit .ensures) (c .before .before .size-ok .ensures) (c .before .rest .ensures) (c .if1 .taken)
+returns c = search needs
 
-voices-requires : tie.Need-voices-requires
-voices-requires c κs = search (tagged-length, needs)
+ranges-requires-2 : tie.Need-ranges-requires-2
+ranges-requires-2 c κs = let e = c .if2 .taken in (c .before .before .before .before .pre, c .before .before .size .ensures, size-small _ e, omega arith)
 
 returns-2 : tie.Need-returns-2
-returns-2 c = state-yes _ _ (c .before .before .rest .result) _ (c .before .before .before .before .before .before .before .pre) (c .before .before .before .before .before .size .ensures) (c .before .before .before .before .last-unit .ensures) (c .before .before .before .size-ok .ensures) (c .before .before .rest .ensures) (c .before .if1 .left) (c .voices .ensures)
+returns-2 c = search needs
+
+returns-3 : tie.Need-returns-3
+returns-3 c = size-other _ (c .before .before .size .ensures) (c .before .if1 .left) (c .if2 .left)
 
 pub check-spec : {M : Type 1} → statement M
-check-spec =
-    tie.close
-    (tie.spec
-    size-requires
-    last-unit-requires
-    size-ok-requires
-    rest-requires
-    returns
-    voices-requires
-    returns-2)
+check-spec = tie.close (tie.spec size-requires ranges-requires returns ranges-requires-2 returns-2 returns-3)

@@ -79,7 +79,7 @@ returns c =
     let w = w2 .before .before .before in
     let h = w .before .before .before in
     let z = h .before .before .before in
-    rest-tested _ _ _ (z .pre .1) (z .pre .2) (h .halfword-of .ensures) (w .wide .ensures) (w2 .wide2 .ensures) (w3 .wide3 .ensures)
+    rest-tested _ _ _ (z .pre .1) (z .pre .2) (z .pre .3) (h .halfword-of .ensures) (w .wide .ensures) (w2 .wide2 .ensures) (w3 .wide3 .ensures)
 
 pub rest-spec : {M : Type 1} → statement M
 rest-spec =
