@@ -1,5 +1,5 @@
 -- The voices of a tick, which change in place. Assumes nothing.
-use mathlib.Core.Path.{_≡_, refl, _∙_}
+use mathlib.Core.Path.{_≡_, refl, sym, _∙_}
 use mathlib.Core.Bool.{Bool, true, false, _&&_, not}
 use mathlib.Core.List.{List}
 use Prim.Native.Nat.{ℕ, _+_, _-_, _%_, _≤_, _<_}
@@ -12,19 +12,21 @@ use lib.IntN.{ℤ, pos}
 use Rattle.fixed.proofs.Bools.{and-rest}
 use Rattle.envelope.specs.declared.Envelope.{Envelope}
 use Rattle.envelope.specs.Adsr.{active, tickedOf}
+use Rattle.envelope.proofs.Range.{ticked-in}
 use Rattle.envelope.proofs.Ticks.{waits-ticked}
 use Rattle.noise.specs.declared.Noise.{Noise}
 use Rattle.noise.specs.Noise.{tickedOf as noiseOf}
 use Rattle.soundram.specs.declared.Watch.{Watch}
 use Rattle.soundram.specs.declared.Reader.{Reader}
 use Rattle.soundram.specs.Address.{Sized}
-use Rattle.soundram.specs.Program.{Mem, Does}
+use Rattle.soundram.specs.Program.{Mem, Does, bytesFrom}
+use Rattle.soundram.proofs.Programs.{Always, ends, always-any, always-bind, always-does}
 use Rattle.voice.specs.declared.Settings.{Settings}
 use Rattle.voice.specs.declared.Voice.{Voice}
-use Rattle.voice.specs.Voice.{tickOf, isIdle, withEnvelope, withPosition, movementOf, targetOf, amplitudeOf}
+use Rattle.voice.specs.Voice.{withEnvelope, withPosition, loopedOf, filledOf, loadOf, endedOf, readyOf, arriveOf, tickOf, isIdle, movementOf, steppedOf, targetOf, amplitudeOf}
 use Rattle.voice.specs.Range.{InRange}
-use Rattle.voice.proofs.Range.{tick-range}
-use Rattle.voice.proofs.Ticks.{tick-idle, tick-stays}
+use Rattle.voice.proofs.Range.{ended-in, ready-range}
+use Rattle.voice.proofs.Ticks.{ready-loaded, ready-loads, arrive-block, arrive-on, moves-does, tick-idle, tick-sounds}
 use Rattle.voices.specs.Voices.{settingsOf, pastEnd, AllIn}
 use Rattle.voices.proofs.Turns.{Play, play-none, play-more, play-all}
 use Rattle.registers.specs.Map.{registerAt}
@@ -36,7 +38,7 @@ use Rattle.tick.specs.Run.{beginOf}
 use Rattle.layout.specs.Layout.{stateOf, voiceIn, Formed, Holds}
 use Rattle.layout.specs.Stores.{withVoice, withWait}
 use Rattle.layout.proofs.Laws.{voices-count, self-holds, holds-as, twice}
-use Rattle.tick_runs.specs.Run.{Plays, PlaysAll}
+use Rattle.tick_runs.specs.Run.{Becomes, Plays, PlaysAll}
 
 -- ---- one voice
 
@@ -44,43 +46,84 @@ use Rattle.tick_runs.specs.Run.{Plays, PlaysAll}
 voice-put : (xs ys : List ℕ) (n : ℕ) (v : Voice) → n < 24 → Holds ys (withVoice (stateOf xs) n v) → voiceIn ys n ≡ v
 voice-put xs ys n v h p = let k = voices-count xs in rw (p .state) (getD-set-same (stateOf xs .voices) n v pastEnd (omega arith))
 
--- the voice after a tick may stand in the buffer; v and s are the voice and its settings as the calls have them
-pub load-in : (size : ℕ) (n : ℕ) (v : Voice) (s : Settings) (b : ℤ) (level : ℕ) {a : ℤ} {w x : Voice} {m m′ : Mem} → v ≡ x → Does (tickOf (Reader.Voice n) size s b level v) m (record { voice = w; amplitude = a }) m′
-    → Sized size → InRange size x → (w .source .address .0 % 8 ≡ 0) × (w .source .address .0 < 0x80000)
-load-in size n v s b level e d z r =
-    let q = tick-range size (Reader.Voice n) s b level v d z (rw e r) in
-    let h = q .below in
+-- a voice that stays as it is
+same-voice : (xs : List ℕ) (n : ℕ) → Formed xs → Holds xs (withVoice (stateOf xs) n (voiceIn xs n))
+same-voice xs n f = holds-as (self-holds xs f) (rw (set-getD (stateOf xs .voices) n pastEnd))
+
+-- a load leaves the address
+same-address : (who : Reader) (size : ℕ) (v : Voice) → Always (λ (u : Voice). u .source .address ≡ v .source .address) (loadOf who size v)
+unfolding loadOf filledOf loopedOf
+same-address who size v = always-bind (always-any (bytesFrom who size (v .source .address) 8)) (λ bytes _. ends refl)
+
+pub loaded-place : (who : Reader) (size : ℕ) (v : Voice) {u : Voice} {m o : Mem} → Does (loadOf who size v) m u o → v .source .address .0 % 8 ≡ 0 → v .source .address .0 < size → Sized size
+    → (u .source .address .0 % 8 ≡ 0) × (u .source .address .0 < 0x80000)
+loaded-place who size v d e l z =
+    let a = always-does (same-address who size v) d in
     let k = z .most in
-    (q .multiple, omega arith)
+    (rw a e, rw a (omega arith))
 
-module _ (size : ℕ) (regs : List ℕ) (n : ℕ) (below : ℤ) (level : ℕ) (xs : List ℕ) where
-  pub load-plays : {v : Voice} {s : Settings} {b a x : ℤ} {w : Voice} {ys : List ℕ} {m m′ : Mem} → v ≡ voiceIn xs n → s ≡ settingsOf regs n → b ≡ below
-      → Does (tickOf (Reader.Voice n) size s b level v) m (record { voice = w; amplitude = a }) m′ → x ≡ a → Holds ys (withVoice (stateOf xs) n w)
-      → Plays size regs n below level xs m x ys m′
-  load-plays {w} ev es eb d ea h = record { voice = w; does = rw (ea, ← ev, ← es, ← eb) d; holds = h }
+module _ (xs : List ℕ) (n size : ℕ) where
+  -- l says whether the voice has a block
+  pub ready-has : (m : Mem) {l : Bool} → Formed xs → l ≡ voiceIn xs n .playing .loaded → l ≡ true → Becomes n (readyOf (Reader.Voice n) size (voiceIn xs n)) xs m xs m
+  ready-has m f e t = record { voice = voiceIn xs n; does = ready-loaded (Reader.Voice n) size (voiceIn xs n) (sym e ∙ t); holds = same-voice xs n f }
 
-  pub idle-plays : {i : Bool} (m : Mem) → Formed xs → i ≡ isIdle (voiceIn xs n .envelope .phase) → i ≡ true → Plays size regs n below level xs m (pos 0) xs m
-  idle-plays m f ei t =
-      record {
-        voice = voiceIn xs n;
-        does = tick-idle _ _ _ _ _ _ ei m t;
-        holds = holds-as (self-holds xs f) (rw (set-getD (stateOf xs .voices) n pastEnd));
-      }
+  pub ready-none : {l : Bool} {v : Voice} {ys : List ℕ} {m o : Mem} → l ≡ voiceIn xs n .playing .loaded → l ≡ false → v ≡ voiceIn xs n → Becomes n (loadOf (Reader.Voice n) size v) xs m ys o
+      → Becomes n (readyOf (Reader.Voice n) size (voiceIn xs n)) xs m ys o
+  ready-none e t ev b = record { voice = b .voice; does = ready-loads (Reader.Voice n) size (voiceIn xs n) (sym e ∙ t) (rw (← ev) (b .does)); holds = b .holds }
 
-  -- l says whether the voice has a block, c and t are the counter and the sample that the fast path gives, a is the amplitude
-  pub stays-plays : {b : ℤ} {u : Envelope} {i l : Bool} {c t : ℕ} {a x : ℤ} {ys zs : List ℕ} (m : Mem) → n < 24 → b ≡ below → i ≡ isIdle (voiceIn xs n .envelope .phase) → i ≡ false
-      → l ≡ voiceIn xs n .playing .loaded → not l ≡ false → t ≤ 27 → c ≡ movementOf (settingsOf regs n) b (voiceIn xs n) .counter → t ≡ targetOf (settingsOf regs n) b (voiceIn xs n)
-      → a ≡ amplitudeOf (settingsOf regs n) level (voiceIn xs n) → x ≡ a → u ≡ tickedOf (voiceIn ys n .envelope) (settingsOf regs n .low) (settingsOf regs n .high)
-      → Holds ys (withVoice (stateOf xs) n (withPosition (voiceIn xs n) c t)) → Holds zs (withVoice (stateOf ys) n (withEnvelope (voiceIn ys n) u))
-      → Plays size regs n below level xs m x zs m
-  stays-plays {u} {l} {c} {t} {ys} {zs} m h eb ei en el o k ec et ea ex eu hp hq =
-      record {
-        voice = withPosition (withEnvelope (voiceIn xs n) u) c t;
-        does =
-            rw ex (tick-stays (Reader.Voice n) size (voiceIn xs n) (settingsOf regs n) below level m ei en (rw (← el) o) (rw (← eb) ec) (rw (← eb) et) k ea
-            (eu ∙ rw (voice-put xs ys n _ h hp)));
-        holds = record { formed = hq .formed; state = twice (stateOf xs) (stateOf ys) (stateOf zs) n _ _ (hp .state) (hq .state ∙ rw (voice-put xs ys n _ h hp)) };
-      }
+  -- c and t are the counter and the sample that the voice comes to
+  module _ (c t : ℕ) where
+    abbrev moved : Voice
+    moved = withPosition (voiceIn xs n) c (voiceIn xs n .position .index)
+
+    pub arrive-stays : {ys : List ℕ} (m : Mem) → t ≤ 27 → Holds ys (withVoice (stateOf xs) n (withPosition (voiceIn xs n) c t)) → Becomes n (arriveOf (Reader.Voice n) size t moved) xs m ys m
+    arrive-stays m h o = record { voice = withPosition (voiceIn xs n) c t; does = arrive-on (Reader.Voice n) size moved t m h; holds = o }
+
+    pub arrive-passes : {v x : Voice} {ys : List ℕ} {m o : Mem} → 27 < t → v ≡ voiceIn xs n → x ≡ endedOf size (withPosition v c (t - 28)) → Becomes n (loadOf (Reader.Voice n) size x) xs m ys o
+        → Becomes n (arriveOf (Reader.Voice n) size t moved) xs m ys o
+    arrive-passes h ev ex b = record { voice = b .voice; does = arrive-block (Reader.Voice n) size moved t h (ex ∙ rw ev) (b .does); holds = b .holds }
+
+    -- past the block's end the voice is in range, for the load
+    pub passed-in : {v x : Voice} → t < 32 → 27 < t → c < 0x1000 → v ≡ voiceIn xs n → x ≡ endedOf size (withPosition v c (t - 28)) → Sized size → InRange size (voiceIn xs n)
+        → (x .source .address .0 % 8 ≡ 0) × (x .source .address .0 < size)
+    passed-in {v} h l k ev ex z r =
+        let i : InRange size (withPosition v c (t - 28)) = rw ev (record { envelope = r .envelope; counter = k; index = omega arith; multiple = r .multiple; below = r .below }) in
+        let e = ended-in _ z i in
+        (rw ex (e .multiple), rw ex (e .below))
+
+-- a tick of voice n in its five steps: ys is the buffer once it has a block, zs once its envelope has stepped; c, t and a are what the fast path gives
+module _ (size : ℕ) (n : ℕ) (xs : List ℕ) {ys : List ℕ} {m o : Mem} (h : n < 24) (p : Becomes n (readyOf (Reader.Voice n) size (voiceIn xs n)) xs m ys o) where
+  ready-voice : voiceIn ys n ≡ p .voice
+  ready-voice = voice-put xs ys n (p .voice) h (p .holds)
+
+  pub ready-in-range : InRange size (voiceIn xs n) → InRange size (voiceIn ys n)
+  ready-in-range r = rw ready-voice (ready-range size (Reader.Voice n) (voiceIn xs n) (p .does) r)
+
+  module _ (regs : List ℕ) {zs : List ℕ} (e : Holds zs (withVoice (stateOf ys) n (withEnvelope (voiceIn ys n) (tickedOf (voiceIn ys n .envelope) (settingsOf regs n .low) (settingsOf regs n .high))))) where
+    stepped-voice : voiceIn zs n ≡ withEnvelope (voiceIn ys n) (tickedOf (voiceIn ys n .envelope) (settingsOf regs n .low) (settingsOf regs n .high))
+    stepped-voice = voice-put ys zs n _ h e
+
+    pub stepped-in-range : InRange size (voiceIn xs n) → InRange size (voiceIn zs n)
+    stepped-in-range r =
+        let q = ready-in-range r in
+        rw stepped-voice (record { envelope = ticked-in _ _ _ (q .envelope); counter = q .counter; index = q .index; multiple = q .multiple; below = q .below })
+
+    pub play-plays : (below : ℤ) (level : ℕ) {b a x : ℤ} {c t : ℕ} {ws : List ℕ} {q : Mem} → isIdle (voiceIn xs n .envelope .phase) ≡ false → b ≡ below
+        → c ≡ movementOf (settingsOf regs n) b (voiceIn ys n) .counter → t ≡ targetOf (settingsOf regs n) b (voiceIn ys n) → a ≡ amplitudeOf (settingsOf regs n) level (voiceIn ys n) → x ≡ a
+        → Becomes n (arriveOf (Reader.Voice n) size t (withPosition (voiceIn zs n) c (voiceIn zs n .position .index))) zs o ws q → Plays size regs n below level xs m x ws q
+    unfolding steppedOf
+    play-plays below level i eb ec et ea ex q =
+        record {
+          voice = q .voice;
+          does =
+              tick-sounds (Reader.Voice n) size (voiceIn xs n) (settingsOf regs n) below level refl i (p .does) (ea ∙ rw ready-voice) ex refl
+              (moves-does (Reader.Voice n) size (p .voice) (settingsOf regs n) below refl (rw (stepped-voice, ec, eb, ready-voice)) (et ∙ rw (eb, ready-voice)) (q .does));
+          holds = record { formed = q .holds .formed; state = twice (stateOf xs) (stateOf zs) _ n _ _ (twice (stateOf xs) (stateOf ys) (stateOf zs) n _ _ (p .holds .state) (e .state)) (q .holds .state) };
+        }
+
+pub idle-plays : (size : ℕ) (regs : List ℕ) (n : ℕ) (below : ℤ) (level : ℕ) (xs : List ℕ) {i : Bool} (m : Mem) → Formed xs → i ≡ isIdle (voiceIn xs n .envelope .phase) → i ≡ true
+    → Plays size regs n below level xs m (pos 0) xs m
+idle-plays size regs n below level xs m f ei t = record { voice = voiceIn xs n; does = tick-idle _ _ _ _ _ _ ei m t; holds = same-voice xs n f }
 
 -- an envelope's step: it waits on, or moves
 pub waits-holds : (xs : List ℕ) (n low high : ℕ) {ys : List ℕ} {w : ℕ} {i : Bool} → w ≡ voiceIn xs n .envelope .wait → i ≡ active (voiceIn xs n .envelope .phase) → (i && ltb 1 w) ≡ true

@@ -5,7 +5,7 @@ use Prim.Native.Nat.{ℕ, _/_}
 use lib.ListN.{length}
 use lib.IntN.{ℤ}
 use Rattle.soundram.specs.declared.Reader.{Reader}
-use Rattle.soundram.specs.Program.{Mem, Does, repeat}
+use Rattle.soundram.specs.Program.{Prog, Mem, Does, repeat}
 use Rattle.soundram.specs.Calls.{Times, startOf, timesOf}
 use Rattle.voice.specs.declared.Voice.{Voice}
 use Rattle.voice.specs.Voice.{tickOf}
@@ -15,7 +15,13 @@ use Rattle.layout.specs.Layout.{stateOf, voiceIn, Holds}
 use Rattle.layout.specs.Stores.{withVoice}
 use Rattle.spu.specs.Step.{tickInto, chip}
 
--- voice n plays its tick: xs is the buffer before it, ys after it
+-- voice n becomes what a program gives: xs is the buffer before it, ys after it
+pub record Becomes (n : ℕ) (p : Prog Voice) (xs : List ℕ) (m : Mem) (ys : List ℕ) (m′ : Mem) : Type 0 where
+  pub voice : Voice
+  pub does : Does p m voice m′
+  pub holds : Holds ys (withVoice (stateOf xs) n voice)
+
+-- voice n plays its tick
 pub record Plays (size : ℕ) (regs : List ℕ) (n : ℕ) (below : ℤ) (level : ℕ) (xs : List ℕ) (m : Mem) (amplitude : ℤ) (ys : List ℕ) (m′ : Mem) : Type 0 where
   pub voice : Voice
   pub does : Does (tickOf (Reader.Voice n) size (settingsOf regs n) below level (voiceIn xs n)) m (record { voice = voice; amplitude = amplitude }) m′

@@ -1,5 +1,6 @@
 // A run of ticks, on the buffer: the voices change in place, and what else a tick changes stays in locals from the first tick to the last.
 ghost use mathlib.Core.Path.{_≡_};
+ghost use mathlib.Core.Bool.{false};
 ghost use Prim.Native.Nat.{_%_, _<_};
 ghost use Rattle.envelope.specs.Adsr.{tickedOf};
 ghost use Rattle.gauss.specs.Gauss.{table as factors};
@@ -7,18 +8,21 @@ ghost use Rattle.soundram.specs.Address.{Lent};
 ghost use Rattle.soundram.specs.Program.{memOf};
 ghost use Rattle.registers.specs.Map.{Flags};
 ghost use Rattle.voice.specs.Range as voice;
-ghost use Rattle.voice.specs.Voice.{withEnvelope};
+ghost use Rattle.voice.specs.Voice.{withEnvelope, withPosition, loadOf, readyOf, arriveOf, isIdle};
 ghost use Rattle.voices.specs.Voices.{Modulated, settingsOf, AllIn};
 ghost use Rattle.chip.specs.Range.{InRange};
 ghost use Rattle.tick.specs.Run.{joinOf, beginOf};
 ghost use Rattle.layout.specs.Layout.{stateOf, voiceIn, Formed, Holds};
 ghost use Rattle.layout.specs.Stores.{withVoice};
-ghost use Rattle.fast_path.specs.Steady.{Steps};
-ghost use Rattle.tick_runs.specs.Run.{Plays, PlaysAll, Runs};
+ghost use Rattle.fast_path.specs.Steady.{steadyOf, Steps};
+ghost use Rattle.tick_runs.specs.Run.{Becomes, Plays, PlaysAll, Runs};
 use chip::Control;
+use soundram::Reader;
 use soundram::Watch;
 use tick::Going;
 use tick::Rest;
+use voice::Position;
+use voice::Voice;
 
 // What a voice gives in its tick.
 struct Played {
@@ -38,34 +42,63 @@ pub struct Reports {
     pub doubt: usize,
 }
 
-// Voice n loads a block in its tick.
-fn play_load(
-    table: &[i16; 512],
-    regs: &[u16; 256],
-    pmon: u32,
-    non: u32,
-    size: u32,
+// Voice n becomes v, with the block at its address loaded.
+fn load(
     state: &mut [u16],
     n: usize,
-    below: i16,
-    level: u16,
+    v: Voice,
+    size: u32,
     ram: &[u8],
     marks: &[u8],
     w: Watch,
-) -> Played
-    requires { ⌜ (now table ≡ factors) × (n < 24) × Modulated (now regs) pmon × Flags (now regs) 0x194 non × Formed (now state) × voice.InRange size (voiceIn (now state) n) × Lent size (now ram) (now marks) ⌝ }
-    ensures { λ r. ⌜ Plays size (now (regs .entry)) n below level (now (state .entry)) (memOf (now (ram .entry)) (now (marks .entry)) w) (r .amplitude) (now (state .exit)) (memOf (now (ram .entry)) (now (marks .entry)) (r .watch)) ⌝ }
+) -> Watch
+    requires { ⌜ (n < 24) × Formed (now state) × (v .source .address .0 % 8 ≡ 0) × (v .source .address .0 < size) × Lent size (now ram) (now marks) ⌝ }
+    ensures { λ r. ⌜ Becomes n (loadOf (Reader.Voice n) size v) (now (state .entry)) (memOf (now (ram .entry)) (now (marks .entry)) w) (now (state .exit)) (memOf (now (ram .entry)) (now (marks .entry)) r) ⌝ }
 {
-    let v = layout::voice(state, n);
-    let s = voices::settings_by(regs, pmon, non, n);
-    let t = voice_tick::tick(table, v, n as u8, size, s, below, level, ram, marks, w);
-    let after = t.voice;
+    let l = voice_block::fetch(v, Reader::Voice(n as u8), size, ram, marks, w);
+    let after = l.voice;
     layout::put_voice(state, n, after);
-    let watch = t.watch;
-    Played {
-        amplitude: t.amplitude,
-        watch,
+    l.watch
+}
+
+// Voice n, if it has no block, loads one.
+fn ready(state: &mut [u16], n: usize, size: u32, ram: &[u8], marks: &[u8], w: Watch) -> Watch
+    requires { ⌜ (n < 24) × Formed (now state) × voice.InRange size (voiceIn (now state) n) × Lent size (now ram) (now marks) ⌝ }
+    ensures { λ r. ⌜ Becomes n (readyOf (Reader.Voice n) size (voiceIn (now (state .entry)) n)) (now (state .entry)) (memOf (now (ram .entry)) (now (marks .entry)) w) (now (state .exit)) (memOf (now (ram .entry)) (now (marks .entry)) r) ⌝ }
+{
+    if layout::loaded(state, n) {
+        return w;
     }
+    let v = layout::voice(state, n);
+    load(state, n, v, size, ram, marks, w)
+}
+
+// Voice n comes to the sample target, or past the block's end to one of the next block.
+fn arrive(
+    state: &mut [u16],
+    n: usize,
+    counter: u16,
+    target: u32,
+    size: u32,
+    ram: &[u8],
+    marks: &[u8],
+    w: Watch,
+) -> Watch
+    requires { ⌜ (n < 24) × Formed (now state) × voice.InRange size (voiceIn (now state) n) × (counter < 0x1000) × (target < 32) × Lent size (now ram) (now marks) ⌝ }
+    ensures { λ r. ⌜ Becomes n (arriveOf (Reader.Voice n) size target (withPosition (voiceIn (now (state .entry)) n) counter (voiceIn (now (state .entry)) n .position .index))) (now (state .entry)) (memOf (now (ram .entry)) (now (marks .entry)) w) (now (state .exit)) (memOf (now (ram .entry)) (now (marks .entry)) r) ⌝ }
+{
+    if target <= 27 {
+        layout::put_position(state, n, counter, target as u16);
+        return w;
+    }
+    let position = Position {
+        counter,
+        index: (target - 28) as u8,
+    };
+    let mut v = layout::voice(state, n);
+    v.position = position;
+    let past = voice_block::end(size, v);
+    load(state, n, past, size, ram, marks, w)
 }
 
 // The envelope of voice n takes its step. Most only wait, and look at no rate.
@@ -83,7 +116,36 @@ fn step_envelope(regs: &[u16; 256], pmon: u32, non: u32, state: &mut [u16], n: u
     layout::put_envelope(state, n, e);
 }
 
-// All voices play a tick, one after the other. Most stay in their block, on the fast path. A voice without a block and one that passes its block's end load one.
+// Voice n plays its tick, in document 01's five steps. Most voices stay in their block and load none.
+fn play(
+    table: &[i16; 512],
+    regs: &[u16; 256],
+    pmon: u32,
+    non: u32,
+    step: u16,
+    size: u32,
+    state: &mut [u16],
+    n: usize,
+    below: i16,
+    level: u16,
+    ram: &[u8],
+    marks: &[u8],
+    w: Watch,
+) -> Played
+    requires { ⌜ (now table ≡ factors) × (n < 24) × Modulated (now regs) pmon × Flags (now regs) 0x194 non × (step ≡ steadyOf (settingsOf (now regs) n)) × Formed (now state) × (isIdle (voiceIn (now state) n .envelope .phase) ≡ false) × voice.InRange size (voiceIn (now state) n) × Lent size (now ram) (now marks) ⌝ }
+    ensures { λ r. ⌜ Plays size (now (regs .entry)) n below level (now (state .entry)) (memOf (now (ram .entry)) (now (marks .entry)) w) (r .amplitude) (now (state .exit)) (memOf (now (ram .entry)) (now (marks .entry)) (r .watch)) ⌝ }
+{
+    let first = ready(state, n, size, ram, marks, w);
+    let m = fast_path::stay(table, regs, pmon, non, state, n, step, below, level);
+    step_envelope(regs, pmon, non, state, n);
+    let watch = arrive(state, n, m.counter, m.target, size, ram, marks, first);
+    Played {
+        amplitude: m.amplitude,
+        watch,
+    }
+}
+
+// All voices play a tick, one after the other.
 fn play_all(
     table: &[i16; 512],
     regs: &[u16; 256],
@@ -111,55 +173,25 @@ fn play_all(
             n = n + 1;
             continue;
         }
-        if !layout::loaded(state, n) {
-            let p = play_load(
-                table,
-                regs,
-                pmon,
-                non,
-                size,
-                state,
-                n,
-                below,
-                level,
-                ram,
-                marks,
-                watch,
-            );
-            let seen = p.watch;
-            watch = seen;
-            below = p.amplitude;
-            amplitudes[n] = below;
-            n = n + 1;
-            continue;
-        }
         let step = steps[n];
-        let m = fast_path::stay(table, regs, pmon, non, state, n, step, below, level);
-        if 27 < m.target {
-            let p = play_load(
-                table,
-                regs,
-                pmon,
-                non,
-                size,
-                state,
-                n,
-                below,
-                level,
-                ram,
-                marks,
-                watch,
-            );
-            let seen = p.watch;
-            watch = seen;
-            below = p.amplitude;
-            amplitudes[n] = below;
-            n = n + 1;
-            continue;
-        }
-        layout::put_position(state, n, m.counter, m.target as u16);
-        step_envelope(regs, pmon, non, state, n);
-        below = m.amplitude;
+        let p = play(
+            table,
+            regs,
+            pmon,
+            non,
+            step,
+            size,
+            state,
+            n,
+            below,
+            level,
+            ram,
+            marks,
+            watch,
+        );
+        let seen = p.watch;
+        watch = seen;
+        below = p.amplitude;
         amplitudes[n] = below;
         n = n + 1;
     }
