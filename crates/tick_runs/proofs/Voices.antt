@@ -38,7 +38,7 @@ use Rattle.tick.specs.Run.{beginOf}
 use Rattle.layout.specs.Layout.{stateOf, voiceIn, Formed, Holds}
 use Rattle.layout.specs.Stores.{withVoice, withWait}
 use Rattle.layout.proofs.Laws.{voices-count, self-holds, holds-as, twice}
-use Rattle.tick_runs.specs.Run.{Becomes, Plays, PlaysAll}
+use Rattle.tick_runs.specs.Run.{Becomes, enveloped, movedTo, Plays, PlaysAll}
 
 -- ---- one voice
 
@@ -71,27 +71,45 @@ module _ (xs : List ℕ) (n size : ℕ) where
       → Becomes n (readyOf (Reader.Voice n) size (voiceIn xs n)) xs m ys o
   ready-none e t ev b = record { voice = b .voice; does = ready-loads (Reader.Voice n) size (voiceIn xs n) (sym e ∙ t) (rw (← ev) (b .does)); holds = b .holds }
 
-  -- c and t are the counter and the sample that the voice comes to
-  module _ (c t : ℕ) where
-    abbrev moved : Voice
-    moved = withPosition (voiceIn xs n) c (voiceIn xs n .position .index)
+-- both steps: c and t are the counter and the sample that the voice comes to, ys is the buffer after the first of the code's two parts
+module _ (regs : List ℕ) (xs : List ℕ) (n : ℕ) {ys : List ℕ} (h : n < 24) where
+  pub steps-stay : (size c t : ℕ) {zs : List ℕ} (m : Mem) → t ≤ 27 → Holds ys (withVoice (stateOf xs) n (withPosition (voiceIn xs n) c t)) → Holds zs (withVoice (stateOf ys) n (enveloped regs n (voiceIn ys n)))
+      → Becomes n (arriveOf (Reader.Voice n) size t (movedTo regs n c (voiceIn xs n))) xs m zs m
+  steps-stay size c t {zs} m l p e =
+      record {
+        voice = withPosition (enveloped regs n (voiceIn xs n)) c t;
+        does = arrive-on (Reader.Voice n) size (movedTo regs n c (voiceIn xs n)) t m l;
+        holds = record { formed = e .formed; state = twice (stateOf xs) (stateOf ys) (stateOf zs) n _ _ (p .state) (e .state ∙ rw (voice-put xs ys n _ h p)) };
+      }
 
-    pub arrive-stays : {ys : List ℕ} (m : Mem) → t ≤ 27 → Holds ys (withVoice (stateOf xs) n (withPosition (voiceIn xs n) c t)) → Becomes n (arriveOf (Reader.Voice n) size t moved) xs m ys m
-    arrive-stays m h o = record { voice = withPosition (voiceIn xs n) c t; does = arrive-on (Reader.Voice n) size moved t m h; holds = o }
+  module _ (e : Holds ys (withVoice (stateOf xs) n (enveloped regs n (voiceIn xs n)))) where
+    stepped : voiceIn ys n ≡ enveloped regs n (voiceIn xs n)
+    stepped = voice-put xs ys n _ h e
 
-    pub arrive-passes : {v x : Voice} {ys : List ℕ} {m o : Mem} → 27 < t → v ≡ voiceIn xs n → x ≡ endedOf size (withPosition v c (t - 28)) → Becomes n (loadOf (Reader.Voice n) size x) xs m ys o
-        → Becomes n (arriveOf (Reader.Voice n) size t moved) xs m ys o
-    arrive-passes h ev ex b = record { voice = b .voice; does = arrive-block (Reader.Voice n) size moved t h (ex ∙ rw ev) (b .does); holds = b .holds }
+    pub stepped-index : {size : ℕ} → InRange size (voiceIn xs n) → voiceIn ys n .position .index ≤ 27
+    stepped-index r = rw stepped (r .index)
 
-    -- past the block's end the voice is in range, for the load
-    pub passed-in : {v x : Voice} → t < 32 → 27 < t → c < 0x1000 → v ≡ voiceIn xs n → x ≡ endedOf size (withPosition v c (t - 28)) → Sized size → InRange size (voiceIn xs n)
-        → (x .source .address .0 % 8 ≡ 0) × (x .source .address .0 < size)
-    passed-in {v} h l k ev ex z r =
-        let i : InRange size (withPosition v c (t - 28)) = rw ev (record { envelope = r .envelope; counter = k; index = omega arith; multiple = r .multiple; below = r .below }) in
-        let e = ended-in _ z i in
-        (rw ex (e .multiple), rw ex (e .below))
+    pub stepped-below : {size : ℕ} {v : Voice} → v ≡ voiceIn ys n → InRange size (voiceIn xs n) → v .source .address .0 < size
+    stepped-below ev r = rw (ev, stepped) (r .below)
 
--- a tick of voice n in its five steps: ys is the buffer once it has a block, zs once its envelope has stepped; c, t and a are what the fast path gives
+    -- v is the voice then, x the voice past its block's end, which may load
+    module _ (size c t : ℕ) (l : 27 < t) {v x : Voice} (ev : v ≡ voiceIn ys n) (ex : x ≡ endedOf size (withPosition v c (t - 28))) where
+      pub passed-in : t < 32 → c < 0x1000 → Sized size → InRange size (voiceIn xs n) → (x .source .address .0 % 8 ≡ 0) × (x .source .address .0 < size)
+      passed-in k o z r =
+          let i : InRange size (withPosition v c (t - 28)) =
+          rw (ev, stepped) (record { envelope = ticked-in _ _ _ (r .envelope); counter = o; index = omega arith; multiple = r .multiple; below = r .below }) in
+          let q = ended-in _ z i in
+          (rw ex (q .multiple), rw ex (q .below))
+
+      pub steps-pass : {zs : List ℕ} {m o : Mem} → Becomes n (loadOf (Reader.Voice n) size x) ys m zs o → Becomes n (arriveOf (Reader.Voice n) size t (movedTo regs n c (voiceIn xs n))) xs m zs o
+      steps-pass {zs} b =
+          record {
+            voice = b .voice;
+            does = arrive-block (Reader.Voice n) size (movedTo regs n c (voiceIn xs n)) t l (ex ∙ rw (ev, stepped)) (b .does);
+            holds = record { formed = b .holds .formed; state = twice (stateOf xs) (stateOf ys) (stateOf zs) n _ _ (e .state) (b .holds .state) };
+          }
+
+-- a tick of voice n: ys is the buffer once it has a block; c, t and a are what the fast path gives
 module _ (size : ℕ) (n : ℕ) (xs : List ℕ) {ys : List ℕ} {m o : Mem} (h : n < 24) (p : Becomes n (readyOf (Reader.Voice n) size (voiceIn xs n)) xs m ys o) where
   ready-voice : voiceIn ys n ≡ p .voice
   ready-voice = voice-put xs ys n (p .voice) h (p .holds)
@@ -99,27 +117,18 @@ module _ (size : ℕ) (n : ℕ) (xs : List ℕ) {ys : List ℕ} {m o : Mem} (h :
   pub ready-in-range : InRange size (voiceIn xs n) → InRange size (voiceIn ys n)
   ready-in-range r = rw ready-voice (ready-range size (Reader.Voice n) (voiceIn xs n) (p .does) r)
 
-  module _ (regs : List ℕ) {zs : List ℕ} (e : Holds zs (withVoice (stateOf ys) n (withEnvelope (voiceIn ys n) (tickedOf (voiceIn ys n .envelope) (settingsOf regs n .low) (settingsOf regs n .high))))) where
-    stepped-voice : voiceIn zs n ≡ withEnvelope (voiceIn ys n) (tickedOf (voiceIn ys n .envelope) (settingsOf regs n .low) (settingsOf regs n .high))
-    stepped-voice = voice-put ys zs n _ h e
-
-    pub stepped-in-range : InRange size (voiceIn xs n) → InRange size (voiceIn zs n)
-    stepped-in-range r =
-        let q = ready-in-range r in
-        rw stepped-voice (record { envelope = ticked-in _ _ _ (q .envelope); counter = q .counter; index = q .index; multiple = q .multiple; below = q .below })
-
-    pub play-plays : (below : ℤ) (level : ℕ) {b a x : ℤ} {c t : ℕ} {ws : List ℕ} {q : Mem} → isIdle (voiceIn xs n .envelope .phase) ≡ false → b ≡ below
-        → c ≡ movementOf (settingsOf regs n) b (voiceIn ys n) .counter → t ≡ targetOf (settingsOf regs n) b (voiceIn ys n) → a ≡ amplitudeOf (settingsOf regs n) level (voiceIn ys n) → x ≡ a
-        → Becomes n (arriveOf (Reader.Voice n) size t (withPosition (voiceIn zs n) c (voiceIn zs n .position .index))) zs o ws q → Plays size regs n below level xs m x ws q
-    unfolding steppedOf
-    play-plays below level i eb ec et ea ex q =
-        record {
-          voice = q .voice;
-          does =
-              tick-sounds (Reader.Voice n) size (voiceIn xs n) (settingsOf regs n) below level refl i (p .does) (ea ∙ rw ready-voice) ex refl
-              (moves-does (Reader.Voice n) size (p .voice) (settingsOf regs n) below refl (rw (stepped-voice, ec, eb, ready-voice)) (et ∙ rw (eb, ready-voice)) (q .does));
-          holds = record { formed = q .holds .formed; state = twice (stateOf xs) (stateOf zs) _ n _ _ (twice (stateOf xs) (stateOf ys) (stateOf zs) n _ _ (p .holds .state) (e .state)) (q .holds .state) };
-        }
+  pub play-plays : (regs : List ℕ) (below : ℤ) (level : ℕ) {b a x : ℤ} {c t : ℕ} {zs : List ℕ} {q : Mem} → isIdle (voiceIn xs n .envelope .phase) ≡ false → b ≡ below
+      → c ≡ movementOf (settingsOf regs n) b (voiceIn ys n) .counter → t ≡ targetOf (settingsOf regs n) b (voiceIn ys n) → a ≡ amplitudeOf (settingsOf regs n) level (voiceIn ys n) → x ≡ a
+      → Becomes n (arriveOf (Reader.Voice n) size t (movedTo regs n c (voiceIn ys n))) ys o zs q → Plays size regs n below level xs m x zs q
+  unfolding steppedOf
+  play-plays regs below level {zs} i eb ec et ea ex q =
+      record {
+        voice = q .voice;
+        does =
+            tick-sounds (Reader.Voice n) size (voiceIn xs n) (settingsOf regs n) below level refl i (p .does) (ea ∙ rw ready-voice) ex refl
+            (moves-does (Reader.Voice n) size (p .voice) (settingsOf regs n) below refl (rw (ec, eb, ready-voice)) (et ∙ rw (eb, ready-voice)) (q .does));
+        holds = record { formed = q .holds .formed; state = twice (stateOf xs) (stateOf ys) (stateOf zs) n _ _ (p .holds .state) (q .holds .state) };
+      }
 
 pub idle-plays : (size : ℕ) (regs : List ℕ) (n : ℕ) (below : ℤ) (level : ℕ) (xs : List ℕ) {i : Bool} (m : Mem) → Formed xs → i ≡ isIdle (voiceIn xs n .envelope .phase) → i ≡ true
     → Plays size regs n below level xs m (pos 0) xs m

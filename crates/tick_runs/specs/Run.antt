@@ -4,11 +4,12 @@ use mathlib.Core.List.{List}
 use Prim.Native.Nat.{ℕ, _/_}
 use lib.ListN.{length}
 use lib.IntN.{ℤ}
+use Rattle.envelope.specs.Adsr.{tickedOf}
 use Rattle.soundram.specs.declared.Reader.{Reader}
 use Rattle.soundram.specs.Program.{Prog, Mem, Does, repeat}
 use Rattle.soundram.specs.Calls.{Times, startOf, timesOf}
 use Rattle.voice.specs.declared.Voice.{Voice}
-use Rattle.voice.specs.Voice.{tickOf}
+use Rattle.voice.specs.Voice.{withEnvelope, withPosition, tickOf}
 use Rattle.voices.specs.Voices.{settingsOf, noSums, mixedOf, voiceAt}
 use Rattle.chip.specs.State.{State, withVoices}
 use Rattle.layout.specs.Layout.{stateOf, voiceIn, Holds}
@@ -20,6 +21,13 @@ pub record Becomes (n : ℕ) (p : Prog Voice) (xs : List ℕ) (m : Mem) (ys : Li
   pub voice : Voice
   pub does : Does p m voice m′
   pub holds : Holds ys (withVoice (stateOf xs) n voice)
+
+-- voice n after its envelope's step, and after its pitch step too, which leaves the index to the move that follows
+abbrev pub enveloped : List ℕ → ℕ → Voice → Voice
+enveloped regs n v = withEnvelope v (tickedOf (v .envelope) (settingsOf regs n .low) (settingsOf regs n .high))
+
+abbrev pub movedTo : List ℕ → ℕ → ℕ → Voice → Voice
+movedTo regs n counter v = withPosition (enveloped regs n v) counter (v .position .index)
 
 -- voice n plays its tick
 pub record Plays (size : ℕ) (regs : List ℕ) (n : ℕ) (below : ℤ) (level : ℕ) (xs : List ℕ) (m : Mem) (amplitude : ℤ) (ys : List ℕ) (m′ : Mem) : Type 0 where

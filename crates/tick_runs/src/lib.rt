@@ -15,7 +15,7 @@ ghost use Rattle.tick.specs.Run.{joinOf, beginOf};
 ghost use Rattle.layout.specs.Layout.{stateOf, voiceIn, Formed, Holds};
 ghost use Rattle.layout.specs.Stores.{withVoice};
 ghost use Rattle.fast_path.specs.Steady.{steadyOf, Steps};
-ghost use Rattle.tick_runs.specs.Run.{Becomes, Plays, PlaysAll, Runs};
+ghost use Rattle.tick_runs.specs.Run.{Becomes, enveloped, movedTo, Plays, PlaysAll, Runs};
 use chip::Control;
 use soundram::Reader;
 use soundram::Watch;
@@ -73,8 +73,34 @@ fn ready(state: &mut [u16], n: usize, size: u32, ram: &[u8], marks: &[u8], w: Wa
     load(state, n, v, size, ram, marks, w)
 }
 
-// Voice n comes to the sample target, or past the block's end to one of the next block.
-fn arrive(
+// The envelope of voice n takes its step.
+fn move_envelope(regs: &[u16; 256], pmon: u32, non: u32, state: &mut [u16], n: usize)
+    requires { ⌜ (n < 24) × Modulated (now regs) pmon × Flags (now regs) 0x194 non × Formed (now state) ⌝ }
+    ensures { λ _. ⌜ Holds (now (state .exit)) (withVoice (stateOf (now (state .entry))) n (enveloped (now (regs .entry)) n (voiceIn (now (state .entry)) n))) ⌝ }
+{
+    let s = voices::settings_by(regs, pmon, non, n);
+    let e = envelope_tick::tick(layout::envelope(state, n), s.low, s.high);
+    layout::put_envelope(state, n, e);
+}
+
+// The same. Most envelopes only wait, and look at no rate.
+fn step_envelope(regs: &[u16; 256], pmon: u32, non: u32, state: &mut [u16], n: usize)
+    requires { ⌜ (n < 24) × Modulated (now regs) pmon × Flags (now regs) 0x194 non × Formed (now state) ⌝ }
+    ensures { λ _. ⌜ Holds (now (state .exit)) (withVoice (stateOf (now (state .entry))) n (enveloped (now (regs .entry)) n (voiceIn (now (state .entry)) n))) ⌝ }
+{
+    let wait = layout::wait(state, n);
+    if layout::is_active(state, n) & (1 < wait) {
+        layout::put_wait(state, n, wait - 1);
+        return;
+    }
+    move_envelope(regs, pmon, non, state, n);
+}
+
+// Both steps of voice n, where the pitch step leads past the block's last sample.
+fn pass_end(
+    regs: &[u16; 256],
+    pmon: u32,
+    non: u32,
     state: &mut [u16],
     n: usize,
     counter: u16,
@@ -84,13 +110,10 @@ fn arrive(
     marks: &[u8],
     w: Watch,
 ) -> Watch
-    requires { ⌜ (n < 24) × Formed (now state) × voice.InRange size (voiceIn (now state) n) × (counter < 0x1000) × (target < 32) × Lent size (now ram) (now marks) ⌝ }
-    ensures { λ r. ⌜ Becomes n (arriveOf (Reader.Voice n) size target (withPosition (voiceIn (now (state .entry)) n) counter (voiceIn (now (state .entry)) n .position .index))) (now (state .entry)) (memOf (now (ram .entry)) (now (marks .entry)) w) (now (state .exit)) (memOf (now (ram .entry)) (now (marks .entry)) r) ⌝ }
+    requires { ⌜ (n < 24) × Modulated (now regs) pmon × Flags (now regs) 0x194 non × Formed (now state) × voice.InRange size (voiceIn (now state) n) × (counter < 0x1000) × (27 < target) × (target < 32) × Lent size (now ram) (now marks) ⌝ }
+    ensures { λ r. ⌜ Becomes n (arriveOf (Reader.Voice n) size target (movedTo (now (regs .entry)) n counter (voiceIn (now (state .entry)) n))) (now (state .entry)) (memOf (now (ram .entry)) (now (marks .entry)) w) (now (state .exit)) (memOf (now (ram .entry)) (now (marks .entry)) r) ⌝ }
 {
-    if target <= 27 {
-        layout::put_position(state, n, counter, target as u16);
-        return w;
-    }
+    move_envelope(regs, pmon, non, state, n);
     let position = Position {
         counter,
         index: (target - 28) as u8,
@@ -101,19 +124,41 @@ fn arrive(
     load(state, n, past, size, ram, marks, w)
 }
 
-// The envelope of voice n takes its step. Most only wait, and look at no rate.
-fn step_envelope(regs: &[u16; 256], pmon: u32, non: u32, state: &mut [u16], n: usize)
-    requires { ⌜ (n < 24) × Modulated (now regs) pmon × Flags (now regs) 0x194 non × Formed (now state) ⌝ }
-    ensures { λ _. ⌜ Holds (now (state .exit)) (withVoice (stateOf (now (state .entry))) n (withEnvelope (voiceIn (now (state .entry)) n) (tickedOf (voiceIn (now (state .entry)) n .envelope) (settingsOf (now (regs .entry)) n .low) (settingsOf (now (regs .entry)) n .high)))) ⌝ }
+// Both steps of voice n, of which the pitch step leads to the sample target.
+fn take_steps(
+    regs: &[u16; 256],
+    pmon: u32,
+    non: u32,
+    state: &mut [u16],
+    n: usize,
+    counter: u16,
+    target: u32,
+    size: u32,
+    ram: &[u8],
+    marks: &[u8],
+    w: Watch,
+) -> Watch
+    requires { ⌜ (n < 24) × Modulated (now regs) pmon × Flags (now regs) 0x194 non × Formed (now state) × voice.InRange size (voiceIn (now state) n) × (counter < 0x1000) × (target < 32) × Lent size (now ram) (now marks) ⌝ }
+    ensures { λ r. ⌜ Becomes n (arriveOf (Reader.Voice n) size target (movedTo (now (regs .entry)) n counter (voiceIn (now (state .entry)) n))) (now (state .entry)) (memOf (now (ram .entry)) (now (marks .entry)) w) (now (state .exit)) (memOf (now (ram .entry)) (now (marks .entry)) r) ⌝ }
 {
-    let wait = layout::wait(state, n);
-    if layout::is_active(state, n) & (1 < wait) {
-        layout::put_wait(state, n, wait - 1);
-        return;
+    if 27 < target {
+        return pass_end(
+            regs,
+            pmon,
+            non,
+            state,
+            n,
+            counter,
+            target,
+            size,
+            ram,
+            marks,
+            w,
+        );
     }
-    let s = voices::settings_by(regs, pmon, non, n);
-    let e = envelope_tick::tick(layout::envelope(state, n), s.low, s.high);
-    layout::put_envelope(state, n, e);
+    layout::put_position(state, n, counter, target as u16);
+    step_envelope(regs, pmon, non, state, n);
+    w
 }
 
 // Voice n plays its tick, in document 01's five steps. Most voices stay in their block and load none.
@@ -137,8 +182,19 @@ fn play(
 {
     let first = ready(state, n, size, ram, marks, w);
     let m = fast_path::stay(table, regs, pmon, non, state, n, step, below, level);
-    step_envelope(regs, pmon, non, state, n);
-    let watch = arrive(state, n, m.counter, m.target, size, ram, marks, first);
+    let watch = take_steps(
+        regs,
+        pmon,
+        non,
+        state,
+        n,
+        m.counter,
+        m.target,
+        size,
+        ram,
+        marks,
+        first,
+    );
     Played {
         amplitude: m.amplitude,
         watch,
