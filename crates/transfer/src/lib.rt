@@ -1,8 +1,11 @@
 // Transfers: halfwords moved at the transfer address.
-ghost use Prim.Native.Nat.{_<_};
+ghost use mathlib.Core.Path.{_≡_};
+ghost use Prim.Native.Nat.{_+_, _*_, _≤_, _<_};
+ghost use lib.ListN.{length};
 ghost use Rattle.soundram.specs.Address.{Lent};
 ghost use Rattle.soundram.specs.Program.{Does, memOf};
 ghost use Rattle.transfer.specs.Transfer.{putOne, inwardOf, outwardOf};
+ghost use Rattle.transfer.specs.Whole.{storedOf, markedFrom, copiedOf, allMarked, passedOf};
 use soundram::ByteAddress;
 use soundram::Reader;
 use soundram::Watch;
@@ -11,6 +14,68 @@ use soundram::Watch;
 pub struct Moved {
     pub address: ByteAddress,
     pub watch: Watch,
+}
+
+// ---- many halfwords, none past the end of sound RAM
+
+// What accesses to the n halfwords from h on leave of the watch; sure: none was a counted read of an unmarked halfword.
+fn passed(w: Watch, h: u32, n: u32, sure: bool) -> Watch
+    requires { ⌜ h + n ≤ 0x80000 ⌝ }
+    ensures { λ r. ⌜ r ≡ passedOf w h n sure ⌝ }
+{
+    Watch {
+        armed: w.armed,
+        halfword: w.halfword,
+        latch: w.latch | (w.armed & ((h <= w.halfword) & (w.halfword < h + n))),
+        doubt: w.doubt | !sure,
+    }
+}
+
+fn store_all(ram: &mut [u8], h: usize, values: &[u16])
+    requires { ⌜ (h + length (now values)) * 2 ≤ length (now ram) ⌝ }
+    ensures { λ _. ⌜ now (ram .exit) ≡ storedOf (now (ram .entry)) h (now (values .entry)) (length (now (values .entry))) ⌝ }
+{
+    for i in 0..values.len() {
+        let at = (h + i) * 2;
+        let v = values[i];
+        ram[at] = (v % 256) as u8;
+        ram[at + 1] = (v / 256) as u8;
+    }
+}
+
+fn mark_all(marks: &mut [u8], h: usize, n: usize)
+    requires { ⌜ (h + n ≤ length (now marks) * 8) × (length (now marks) ≤ 0x8000) ⌝ }
+    ensures { λ _. ⌜ now (marks .exit) ≡ markedFrom (now (marks .entry)) h n ⌝ }
+{
+    for i in 0..n {
+        let at = h + i;
+        let b = marks[at / 8];
+        marks[at / 8] = b | (1u8 << (at % 8));
+    }
+}
+
+fn copy_all(ram: &[u8], h: usize, out: &mut [u16])
+    requires { ⌜ (h + length (now out)) * 2 ≤ length (now ram) ⌝ }
+    ensures { λ _. ⌜ now (out .exit) ≡ copiedOf (now (ram .entry)) h (now (out .entry)) (length (now (out .entry))) ⌝ }
+{
+    for i in 0..out.len() {
+        let at = (h + i) * 2;
+        let low = ram[at];
+        let high = ram[at + 1];
+        out[i] = low as u16 + high as u16 * 256;
+    }
+}
+
+fn all_marked(marks: &[u8], h: usize, n: usize) -> bool
+    requires { ⌜ (h + n ≤ length (now marks) * 8) × (length (now marks) ≤ 0x8000) ⌝ }
+    ensures { λ r. ⌜ r ≡ allMarked (now (marks .entry)) h n ⌝ }
+{
+    let mut ok = true;
+    for i in 0..n {
+        let at = h + i;
+        ok = ok & ((marks[at / 8] >> (at % 8)) % 2 == 1);
+    }
+    ok
 }
 
 fn put(ram: &mut [u8], marks: &mut [u8], size: u32, value: u16, m: Moved) -> Moved
@@ -22,8 +87,8 @@ fn put(ram: &mut [u8], marks: &mut [u8], size: u32, value: u16, m: Moved) -> Mov
     Moved { address, watch }
 }
 
-// The values into sound RAM.
-pub fn inward(
+// The values into sound RAM, one at a time, because an address may wrap.
+fn inward_around(
     ram: &mut [u8],
     marks: &mut [u8],
     size: u32,
@@ -44,8 +109,49 @@ pub fn inward(
     m
 }
 
-// Out of sound RAM, as many as the buffer holds.
-pub fn outward(
+// The values into sound RAM, which they do not reach the end of.
+fn inward_straight(
+    ram: &mut [u8],
+    marks: &mut [u8],
+    size: u32,
+    a: ByteAddress,
+    values: &[u16],
+    w: Watch,
+) -> Moved
+    requires { ⌜ Lent size (now ram) (now marks) × (a .0 + length (now values) * 2 < size) ⌝ }
+    ensures { λ r. ⌜ Does (inwardOf size a (now (values .entry))) (memOf (now (ram .entry)) (now (marks .entry)) w) (r .address) (memOf (now (ram .exit)) (now (marks .exit)) (r .watch)) ⌝ }
+{
+    let h = a.0 / 2;
+    let n = values.len();
+    store_all(ram, h as usize, values);
+    mark_all(marks, h as usize, n);
+    let watch = passed(w, h, n as u32, true);
+    Moved {
+        address: ByteAddress(a.0 + n as u32 * 2),
+        watch,
+    }
+}
+
+// The values into sound RAM.
+pub fn inward(
+    ram: &mut [u8],
+    marks: &mut [u8],
+    size: u32,
+    a: ByteAddress,
+    values: &[u16],
+    w: Watch,
+) -> Moved
+    requires { ⌜ Lent size (now ram) (now marks) × (a .0 < size) ⌝ }
+    ensures { λ r. ⌜ Does (inwardOf size a (now (values .entry))) (memOf (now (ram .entry)) (now (marks .entry)) w) (r .address) (memOf (now (ram .exit)) (now (marks .exit)) (r .watch)) ⌝ }
+{
+    if values.len() < ((size - a.0) / 2) as usize {
+        return inward_straight(ram, marks, size, a, values, w);
+    }
+    inward_around(ram, marks, size, a, values, w)
+}
+
+// Out of sound RAM, one at a time, because an address may wrap.
+fn outward_around(
     ram: &[u8],
     marks: &[u8],
     size: u32,
@@ -66,4 +172,45 @@ pub fn outward(
         address = soundram::forward(size, address, 2);
     }
     Moved { address, watch }
+}
+
+// Out of sound RAM, from halfwords before its end.
+fn outward_straight(
+    ram: &[u8],
+    marks: &[u8],
+    size: u32,
+    a: ByteAddress,
+    out: &mut [u16],
+    w: Watch,
+) -> Moved
+    requires { ⌜ Lent size (now ram) (now marks) × (a .0 + length (now out) * 2 < size) ⌝ }
+    ensures { λ r. ⌜ Does (outwardOf size a (now (out .entry))) (memOf (now (ram .entry)) (now (marks .entry)) w) (record { address = r .address; buffer = now (out .exit) }) (memOf (now (ram .entry)) (now (marks .entry)) (r .watch)) ⌝ }
+{
+    let h = a.0 / 2;
+    let n = out.len();
+    copy_all(ram, h as usize, out);
+    let sure = all_marked(marks, h as usize, n);
+    let watch = passed(w, h, n as u32, sure);
+    Moved {
+        address: ByteAddress(a.0 + n as u32 * 2),
+        watch,
+    }
+}
+
+// Out of sound RAM, as many as the buffer holds.
+pub fn outward(
+    ram: &[u8],
+    marks: &[u8],
+    size: u32,
+    a: ByteAddress,
+    out: &mut [u16],
+    w: Watch,
+) -> Moved
+    requires { ⌜ Lent size (now ram) (now marks) × (a .0 < size) ⌝ }
+    ensures { λ r. ⌜ Does (outwardOf size a (now (out .entry))) (memOf (now (ram .entry)) (now (marks .entry)) w) (record { address = r .address; buffer = now (out .exit) }) (memOf (now (ram .entry)) (now (marks .entry)) (r .watch)) ⌝ }
+{
+    if out.len() < ((size - a.0) / 2) as usize {
+        return outward_straight(ram, marks, size, a, out, w);
+    }
+    outward_around(ram, marks, size, a, out, w)
 }

@@ -7,8 +7,8 @@ use Rattle.soundram.specs.Address.{Lent}
 use Rattle.soundram.specs.Program.{Does, memOf, repeat}
 use Rattle.soundram.proofs.Programs.{lent-after, repeat-none, repeat-more, repeat-end}
 use Rattle.transfer.specs.Transfer.{putAt, inwardOf}
-use Rattle.transfer.proofs.inward.Statement.{statement}
-use Rattle.transfer.proofs.inward.Tie as tie
+use Rattle.transfer.proofs.inward_around.Statement.{statement}
+use Rattle.transfer.proofs.inward_around.Tie as tie
 
 abbrev Inv-loop : tie.InvT-loop
 Inv-loop ram₀ marks₀ size values m₀ i₀ i-end ram marks m i =
@@ -60,8 +60,8 @@ returns c =
     let a = c .before in
     let v = a .loop .inv in repeat-end _ _ _ _ _ (v .4) (omega (arith, v .0, v .1)) (omega (arith, c .loop-test .left, v .1))
 
-pub inward-spec : {M : Type 1} → statement M
-inward-spec =
+pub inward-around-spec : {M : Type 1} → statement M
+inward-around-spec =
     tie.close
     (tie.spec
     Inv-loop

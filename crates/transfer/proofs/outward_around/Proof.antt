@@ -9,8 +9,8 @@ use Rattle.soundram.proofs.Addresses.{forward-below}
 use Rattle.soundram.proofs.Programs.{within, repeat-none, repeat-more, repeat-end}
 use Rattle.transfer.specs.Transfer.{getAt, outwardOf}
 use Rattle.transfer.proofs.Moves.{get-does}
-use Rattle.transfer.proofs.outward.Statement.{statement}
-use Rattle.transfer.proofs.outward.Tie as tie
+use Rattle.transfer.proofs.outward_around.Statement.{statement}
+use Rattle.transfer.proofs.outward_around.Tie as tie
 
 abbrev Inv-loop : tie.InvT-loop
 Inv-loop ram marks size out₀ address₀ watch₀ i₀ i-end out address watch i =
@@ -63,8 +63,8 @@ returns c =
     let a = c .before in
     let v = a .loop .inv in repeat-end _ _ _ _ _ (v .5) (omega (arith, v .0, v .1)) (omega (arith, c .loop-test .left, v .1))
 
-pub outward-spec : {M : Type 1} → statement M
-outward-spec =
+pub outward-around-spec : {M : Type 1} → statement M
+outward-around-spec =
     tie.close
     (tie.spec
     Inv-loop
