@@ -1,13 +1,13 @@
 -- A transfer that does not wrap: what its loops make, and that it does what a transfer is defined to do. Assumes nothing.
 use mathlib.Core.Path.{_≡_, refl, sym, ap, ap₂, subst, _∙_}
-use mathlib.Core.Bool.{Bool, true, false, _||_, _&&_, not, or-false}
+use mathlib.Core.Bool.{Bool, true, false, _||_, _&&_, not, or-false, and-true, and-assoc}
 use mathlib.Core.List.{List}
-use Prim.Native.Nat.{ℕ, zero, suc, _+_, _*_, _/_, _%_, _^_, _<_}
+use Prim.Native.Nat.{ℕ, zero, suc, _+_, _-_, _*_, _/_, _%_, _^_, _≤_, _<_}
 use native.Mathlib.Decide.{decLt, ℕ-discrete}
 use native.Mathlib.Numerals.{add-one}
 use native.Mathlib.Omega.{arith}
 use borrow.Author.Tests.{lt-ltb, le-ltb, le-leb, lt-leb, eq-eqb, ne-eqb}
-use lib.Bits.{bitOr}
+use lib.Bits.{bitAnd, bitOr}
 use lib.Dec.{leb, ltb, eqb}
 use lib.ListN.{length, getD, set}
 use Rattle.fixed.specs.Tests.{allBelow}
@@ -21,7 +21,7 @@ use Rattle.soundram.proofs.Addresses.{forward-small}
 use Rattle.soundram.proofs.Programs.{does-give, does-bind, does-get, does-put}
 use Rattle.transfer.specs.Transfer.{putAt, inwardOf, getAt, outwardOf}
 use Rattle.transfer.specs.Whole.{storedOf, markedFrom, copiedOf, allMarked, passedOf}
-use Rattle.transfer.proofs.Marks.{mark-or}
+use Rattle.transfer.proofs.Marks.{marked-run, tested-run}
 use Rattle.transfer.proofs.Moves.{put-does, get-does}
 
 -- ---- the loops: before them, and one halfword more
@@ -48,10 +48,39 @@ pub marked-none : (marks : List ℕ) (h : ℕ) → marks ≡ markedFrom marks h 
 unfolding markedFrom
 marked-none marks h = refl
 
-pub marked-more : (marks : List ℕ) (h n : ℕ) {marks′ : List ℕ} → marks′ ≡ markedFrom marks h n
-    → set marks′ ((h + n) / 8) (bitOr (getD marks′ ((h + n) / 8) 0) (1 * 2 ^ ((h + n) % 8) % 256)) ≡ markedFrom marks h (n + 1)
+marked-add : (marks : List ℕ) (h n m : ℕ) → markedFrom (markedFrom marks h n) (h + n) m ≡ markedFrom marks h (n + m)
 unfolding markedFrom
-marked-more marks h n {marks′} e = mark-or marks′ (h + n) ∙ rw (e, add-one n)
+marked-add marks h n zero = let e : n ≡ n + 0 = omega arith in ap (markedFrom marks h) e
+marked-add marks h n (suc m) =
+    let e : suc (n + m) ≡ n + suc m = omega arith in
+    let f : h + n + m ≡ h + (n + m) = omega arith in
+    ap₂ mark (marked-add marks h n m) f ∙ ap (markedFrom marks h) e
+
+-- m halfwords more, whose marks lie in one byte
+pub marked-more : (marks : List ℕ) (h n m : ℕ) {marks′ : List ℕ} {bits : ℕ} → marks′ ≡ markedFrom marks h n → bits ≡ 2 ^ (m + (h + n) % 8) - 2 ^ ((h + n) % 8)
+    → (h + n) % 8 + m ≤ 8 → (h + n) / 8 < length marks′ → set marks′ ((h + n) / 8) (bitOr (getD marks′ ((h + n) / 8) 0) bits) ≡ markedFrom marks h (n + m)
+marked-more marks h n m {marks′} e b l here =
+    ap (λ (x : ℕ). set marks′ ((h + n) / 8) (bitOr (getD marks′ ((h + n) / 8) 0) x)) b
+    ∙ marked-run marks′ (h + n) here m l
+    ∙ ap (λ (xs : List ℕ). markedFrom xs (h + n) m) e
+    ∙ marked-add marks h n m
+
+tested-add : (marks : List ℕ) (h n m : ℕ) → (allMarked marks h n && allMarked marks (h + n) m) ≡ allMarked marks h (n + m)
+unfolding allBelow
+tested-add marks h n zero = let e : n ≡ n + 0 = omega arith in and-true (allMarked marks h n) ∙ ap (allMarked marks h) e
+tested-add marks h n (suc m) =
+    let e : suc (n + m) ≡ n + suc m = omega arith in
+    let f : h + n + m ≡ h + (n + m) = omega arith in
+    sym (and-assoc (allMarked marks h n) (allMarked marks (h + n) m) (marked marks (h + n + m)))
+    ∙ ap₂ (λ (x : Bool) (y : ℕ). x && marked marks y) (tested-add marks h n m) f
+    ∙ ap (allMarked marks h) e
+
+pub tested-more : (marks : List ℕ) (h n m : ℕ) {ok : Bool} {bits : ℕ} → ok ≡ allMarked marks h n → bits ≡ 2 ^ (m + (h + n) % 8) - 2 ^ ((h + n) % 8)
+    → (h + n) % 8 + m ≤ 8 → (ok && eqb (bitAnd (getD marks ((h + n) / 8) 0) bits) bits) ≡ allMarked marks h (n + m)
+tested-more marks h n m {ok} e b l =
+    ap₂ (λ (x : Bool) (y : ℕ). x && eqb (bitAnd (getD marks ((h + n) / 8) 0) y) y) e b
+    ∙ ap (λ (x : Bool). allMarked marks h n && x) (tested-run marks (h + n) m l)
+    ∙ tested-add marks h n m
 
 -- ---- the watch
 
@@ -93,11 +122,11 @@ passed-none w h =
 
 -- the access to one halfword more
 passed-more : (w : Watch) (h n : ℕ) (s t : Bool) → passedOf w h (suc n) (s && t) ≡ record {
-      armed = passedOf w h n s .armed;
-      halfword = passedOf w h n s .halfword;
-      latch = latched (passedOf w h n s) (h + n);
-      doubt = passedOf w h n s .doubt || not t;
-    }
+  armed = passedOf w h n s .armed;
+  halfword = passedOf w h n s .halfword;
+  latch = latched (passedOf w h n s) (h + n);
+  doubt = passedOf w h n s .doubt || not t;
+}
 unfolding passedOf
 passed-more w h n s t =
     ap₂ (λ (l d : Bool). record { armed = w .armed; halfword = w .halfword; latch = l; doubt = d })

@@ -1,6 +1,6 @@
 // Transfers: halfwords moved at the transfer address.
 ghost use mathlib.Core.Path.{_≡_};
-ghost use Prim.Native.Nat.{_+_, _*_, _≤_, _<_};
+ghost use Prim.Native.Nat.{_+_, _-_, _*_, _%_, _^_, _≤_, _<_};
 ghost use lib.ListN.{length};
 ghost use Rattle.soundram.specs.Address.{Lent};
 ghost use Rattle.soundram.specs.Program.{Does, memOf};
@@ -43,14 +43,35 @@ fn store_all(ram: &mut [u8], h: usize, values: &[u16])
     }
 }
 
+// How many of the n halfwords from h on have their marks in one byte with h's.
+fn in_byte(h: usize, n: usize) -> usize
+    requires { ⌜ 0 < n ⌝ }
+    ensures { λ r. ⌜ (h % 8 + r ≤ 8) × (r ≤ n) × (0 < r) ⌝ }
+{
+    let room = 8 - h % 8;
+    if n < room { n } else { room }
+}
+
+// The m bits of a byte from bit k on.
+fn bits(k: usize, m: usize) -> u8
+    requires { ⌜ k + m ≤ 8 ⌝ }
+    ensures { λ r. ⌜ r ≡ 2 ^ (m + k) - 2 ^ k ⌝ }
+{
+    ((1u32 << (m + k)) - (1u32 << k)) as u8
+}
+
 fn mark_all(marks: &mut [u8], h: usize, n: usize)
     requires { ⌜ (h + n ≤ length (now marks) * 8) × (length (now marks) ≤ 0x8000) ⌝ }
     ensures { λ _. ⌜ now (marks .exit) ≡ markedFrom (now (marks .entry)) h n ⌝ }
 {
-    for i in 0..n {
+    let mut i = 0usize;
+    while i < n {
         let at = h + i;
+        let m = in_byte(at, n - i);
+        let set = bits(at % 8, m);
         let b = marks[at / 8];
-        marks[at / 8] = b | (1u8 << (at % 8));
+        marks[at / 8] = b | set;
+        i += m;
     }
 }
 
@@ -71,9 +92,13 @@ fn all_marked(marks: &[u8], h: usize, n: usize) -> bool
     ensures { λ r. ⌜ r ≡ allMarked (now (marks .entry)) h n ⌝ }
 {
     let mut ok = true;
-    for i in 0..n {
+    let mut i = 0usize;
+    while i < n {
         let at = h + i;
-        ok = ok & ((marks[at / 8] >> (at % 8)) % 2 == 1);
+        let m = in_byte(at, n - i);
+        let set = bits(at % 8, m);
+        ok = ok & (marks[at / 8] & set == set);
+        i += m;
     }
     ok
 }

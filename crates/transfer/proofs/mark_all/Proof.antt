@@ -2,8 +2,8 @@ use mathlib.Core.Path.{_≡_, refl}
 use Prim.Native.Nat.{_-_, _≤_}
 use borrow.Author.Needs.{needs}
 use lib.ListN.{length}
-use Rattle.transfer.specs.Whole.{markedFrom}
 use Rattle.fixed.proofs.Loops.{to-end}
+use Rattle.transfer.specs.Whole.{markedFrom}
 use Rattle.transfer.proofs.Whole.{marked-none, marked-more}
 use Rattle.transfer.proofs.mark_all.Statement.{statement}
 use Rattle.transfer.proofs.mark_all.Tie as tie
@@ -20,14 +20,17 @@ loop-holds c = (search needs, refl, marked-none _ _)
 add-at : tie.Need-add-at Inv-loop μ-loop
 add-at c = search needs
 
+sub-in-byte : tie.Need-sub-in-byte Inv-loop μ-loop
+sub-in-byte c = search needs
+
+in-byte-requires : tie.Need-in-byte-requires Inv-loop μ-loop
+in-byte-requires c κs = search needs
+
+bits-requires : tie.Need-bits-requires Inv-loop μ-loop
+bits-requires c κs = search needs
+
 slice-read-b : tie.Need-slice-read-b Inv-loop μ-loop
 slice-read-b c = search needs
-
-cast-marks : tie.Need-cast-marks Inv-loop μ-loop
-cast-marks c = search needs
-
-shl-marks : tie.Need-shl-marks Inv-loop μ-loop
-shl-marks c = search needs
 
 slice-write-marks : tie.Need-slice-write-marks Inv-loop μ-loop
 slice-write-marks c = search needs
@@ -40,8 +43,9 @@ loop-less c = search needs
 
 loop-again : tie.Need-loop-again Inv-loop μ-loop
 loop-again c =
-    let v = c .before .before .loop .inv in
-    (search needs, search (needs, v .1), marked-more _ _ _ (v .2))
+    let d = c .before .before in
+    let v = d .before .before .loop .inv in
+    (search needs, search (needs, v .1), marked-more _ _ _ _ (v .2) (c .before .bits .ensures) (d .in-byte .ensures .0) (search needs))
 
 same-length : tie.Need-same-length Inv-loop μ-loop
 same-length c = search needs
@@ -57,9 +61,10 @@ mark-all-spec =
     μ-loop
     loop-holds
     add-at
+    sub-in-byte
+    in-byte-requires
+    bits-requires
     slice-read-b
-    cast-marks
-    shl-marks
     slice-write-marks
     add-i
     loop-less
