@@ -24,6 +24,20 @@ use Rattle.transfer.specs.Whole.{storedOf, markedFrom, copiedOf, allMark
 use Rattle.transfer.proofs.Marks.{marked-run, tested-run}
 use Rattle.transfer.proofs.Moves.{put-does, get-does}
 
+-- ---- two bytes make a halfword
+
+pub half-fits : {v : ℕ} → v < 65536 → v / 256 < 256
+half-fits l = omega arith
+
+pub byte-fits : {b : ℕ} → b < 256 → b < 65536
+byte-fits l = omega arith
+
+pub high-fits : {b : ℕ} → b < 256 → b * 256 < 65536
+high-fits l = omega arith
+
+pub bytes-fit : {a b : ℕ} → a < 256 → b < 256 → a + b * 256 < 65536
+bytes-fit k l = omega arith
+
 -- ---- the loops: before them, and one halfword more
 
 pub stored-none : (ram : List ℕ) (h : ℕ) (vs : List ℕ) → ram ≡ storedOf ram h vs 0

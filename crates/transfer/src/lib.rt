@@ -16,9 +16,9 @@ pub struct Moved {
     pub watch: Watch,
 }
 
-// ---- many halfwords, none past the end of sound RAM
+// ---- n halfwords from halfword h on, none past the end of sound RAM
 
-// What accesses to the n halfwords from h on leave of the watch; sure: none was a counted read of an unmarked halfword.
+// What an access to each leaves of the watch; sure: none was a counted read of an unmarked halfword.
 fn passed(w: Watch, h: u32, n: u32, sure: bool) -> Watch
     requires { ⌜ h + n ≤ 0x80000 ⌝ }
     ensures { λ r. ⌜ r ≡ passedOf w h n sure ⌝ }
@@ -68,9 +68,9 @@ fn mark_all(marks: &mut [u8], h: usize, n: usize)
     while i < n {
         let at = h + i;
         let m = in_byte(at, n - i);
-        let set = bits(at % 8, m);
+        let mask = bits(at % 8, m);
         let b = marks[at / 8];
-        marks[at / 8] = b | set;
+        marks[at / 8] = b | mask;
         i += m;
     }
 }
@@ -96,8 +96,8 @@ fn all_marked(marks: &[u8], h: usize, n: usize) -> bool
     while i < n {
         let at = h + i;
         let m = in_byte(at, n - i);
-        let set = bits(at % 8, m);
-        ok = ok & (marks[at / 8] & set == set);
+        let mask = bits(at % 8, m);
+        ok = ok & (marks[at / 8] & mask == mask);
         i += m;
     }
     ok
@@ -134,7 +134,7 @@ fn inward_around(
     m
 }
 
-// The values into sound RAM, which they do not reach the end of.
+// The values into sound RAM. The address after them lies in it too, so that none wraps.
 fn inward_straight(
     ram: &mut [u8],
     marks: &mut [u8],
@@ -199,7 +199,7 @@ fn outward_around(
     Moved { address, watch }
 }
 
-// Out of sound RAM, from halfwords before its end.
+// Out of sound RAM. The address after the last halfword lies in it too, so that none wraps.
 fn outward_straight(
     ram: &[u8],
     marks: &[u8],

@@ -1,11 +1,10 @@
 use mathlib.Core.Path.{_≡_, refl}
-use Prim.Native.Nat.{_+_, _-_, _*_, _≤_}
-use native.Mathlib.Omega.{arith}
+use Prim.Native.Nat.{_-_, _≤_}
 use borrow.Author.Needs.{needs}
 use lib.ListN.{length}
-use Rattle.transfer.specs.Whole.{copiedOf}
 use Rattle.fixed.proofs.Loops.{to-end}
-use Rattle.transfer.proofs.Whole.{copied-none, copied-more}
+use Rattle.transfer.specs.Whole.{copiedOf}
+use Rattle.transfer.proofs.Whole.{byte-fits, high-fits, bytes-fit, copied-none, copied-more}
 use Rattle.transfer.proofs.copy_all.Statement.{statement}
 use Rattle.transfer.proofs.copy_all.Tie as tie
 
@@ -34,29 +33,16 @@ shared-slice-read-high : tie.Need-shared-slice-read-high Inv-loop μ-loop
 shared-slice-read-high c = search needs
 
 cast-out : tie.Need-cast-out Inv-loop μ-loop
-cast-out c =
-    let a = c .before .before .before in
-    let p = c .before .shared-slice-known .given ((a .before .args .h + a .loop .i) * 2) .fits in
-    record { fits = omega arith }
+cast-out c = record { fits = byte-fits (c .shared-slice-known2 .given _ .fits) }
 
 cast-out-2 : tie.Need-cast-out-2 Inv-loop μ-loop
-cast-out-2 c =
-    let a = c .before .before .before in
-    let p = c .shared-slice-known2 .given ((a .before .args .h + a .loop .i) * 2 + 1) .fits in
-    record { fits = omega arith }
+cast-out-2 c = record { fits = byte-fits (c .shared-slice-known2 .given _ .fits) }
 
 mul-out : tie.Need-mul-out Inv-loop μ-loop
-mul-out c =
-    let a = c .before .before .before in
-    let p = c .shared-slice-known2 .given ((a .before .args .h + a .loop .i) * 2 + 1) .fits in
-    record { fits = omega arith }
+mul-out c = record { fits = high-fits (c .shared-slice-known2 .given _ .fits) }
 
 add-out : tie.Need-add-out Inv-loop μ-loop
-add-out c =
-    let a = c .before .before .before in
-    let p = c .before .shared-slice-known .given ((a .before .args .h + a .loop .i) * 2) .fits in
-    let q = c .shared-slice-known2 .given ((a .before .args .h + a .loop .i) * 2 + 1) .fits in
-    record { fits = omega arith }
+add-out c = record { fits = bytes-fit (c .shared-slice-known2 .given _ .fits) (c .shared-slice-known2 .given _ .fits) }
 
 mul-out-2 : tie.Need-mul-out-2 Inv-loop μ-loop
 mul-out-2 c = search needs

@@ -1,11 +1,10 @@
 use mathlib.Core.Path.{_≡_, refl}
 use Prim.Native.Nat.{_-_, _≤_}
-use native.Mathlib.Omega.{arith}
 use borrow.Author.Needs.{needs}
 use lib.ListN.{length, length-set}
-use Rattle.transfer.specs.Whole.{storedOf}
 use Rattle.fixed.proofs.Loops.{to-end}
-use Rattle.transfer.proofs.Whole.{stored-none, stored-more}
+use Rattle.transfer.specs.Whole.{storedOf}
+use Rattle.transfer.proofs.Whole.{half-fits, stored-none, stored-more}
 use Rattle.transfer.proofs.store_all.Statement.{statement}
 use Rattle.transfer.proofs.store_all.Tie as tie
 
@@ -37,7 +36,7 @@ slice-write-ram : tie.Need-slice-write-ram Inv-loop μ-loop
 slice-write-ram c = search needs
 
 cast-ram-2 : tie.Need-cast-ram-2 Inv-loop μ-loop
-cast-ram-2 c = record { fits = omega (arith, c .shared-slice-known .given (c .before .before .loop .i) .fits) }
+cast-ram-2 c = record { fits = half-fits (c .shared-slice-known .given _ .fits) }
 
 add-ram : tie.Need-add-ram Inv-loop μ-loop
 add-ram c = search needs
