@@ -1,6 +1,6 @@
 -- The voices of a tick, which change in place. Assumes nothing.
 use mathlib.Core.Path.{_≡_, refl, sym, _∙_}
-use mathlib.Core.Bool.{Bool, true, false, _&&_, not}
+use mathlib.Core.Bool.{Bool, true, false, _&&_}
 use mathlib.Core.List.{List}
 use Prim.Native.Nat.{ℕ, _+_, _-_, _%_, _≤_, _<_}
 use native.Mathlib.Omega.{arith}
@@ -23,7 +23,7 @@ use Rattle.soundram.specs.Program.{Mem, Does, bytesFrom}
 use Rattle.soundram.proofs.Programs.{Always, ends, always-any, always-bind, always-does}
 use Rattle.voice.specs.declared.Settings.{Settings}
 use Rattle.voice.specs.declared.Voice.{Voice}
-use Rattle.voice.specs.Voice.{withEnvelope, withPosition, loopedOf, filledOf, loadOf, endedOf, readyOf, arriveOf, tickOf, isIdle, movementOf, steppedOf, targetOf, amplitudeOf}
+use Rattle.voice.specs.Voice.{withEnvelope, withPosition, loopedOf, filledOf, loadOf, endedOf, readyOf, arriveOf, isIdle, movementOf, steppedOf, targetOf, amplitudeOf}
 use Rattle.voice.specs.Range.{InRange}
 use Rattle.voice.proofs.Range.{ended-in, ready-range}
 use Rattle.voice.proofs.Ticks.{ready-loaded, ready-loads, arrive-block, arrive-on, moves-does, tick-idle, tick-sounds}
@@ -71,43 +71,28 @@ module _ (xs : List ℕ) (n size : ℕ) where
       → Becomes n (readyOf (Reader.Voice n) size (voiceIn xs n)) xs m ys o
   ready-none e t ev b = record { voice = b .voice; does = ready-loads (Reader.Voice n) size (voiceIn xs n) (sym e ∙ t) (rw (← ev) (b .does)); holds = b .holds }
 
--- both steps: c and t are the counter and the sample that the voice comes to, ys is the buffer after the first of the code's two parts
-module _ (regs : List ℕ) (xs : List ℕ) (n : ℕ) {ys : List ℕ} (h : n < 24) where
-  pub steps-stay : (size c t : ℕ) {zs : List ℕ} (m : Mem) → t ≤ 27 → Holds ys (withVoice (stateOf xs) n (withPosition (voiceIn xs n) c t)) → Holds zs (withVoice (stateOf ys) n (enveloped regs n (voiceIn ys n)))
-      → Becomes n (arriveOf (Reader.Voice n) size t (movedTo regs n c (voiceIn xs n))) xs m zs m
-  steps-stay size c t {zs} m l p e =
-      record {
-        voice = withPosition (enveloped regs n (voiceIn xs n)) c t;
-        does = arrive-on (Reader.Voice n) size (movedTo regs n c (voiceIn xs n)) t m l;
-        holds = record { formed = e .formed; state = twice (stateOf xs) (stateOf ys) (stateOf zs) n _ _ (p .state) (e .state ∙ rw (voice-put xs ys n _ h p)) };
-      }
+-- both steps, where the voice stays in its block: c and t are the counter and the sample that it comes to
+pub steps-stay : (regs xs : List ℕ) (n size c t : ℕ) {ys zs : List ℕ} (m : Mem) → n < 24 → t ≤ 27 → Holds ys (withVoice (stateOf xs) n (withPosition (voiceIn xs n) c t))
+    → Holds zs (withVoice (stateOf ys) n (enveloped regs n (voiceIn ys n))) → Becomes n (arriveOf (Reader.Voice n) size t (movedTo regs n c (voiceIn xs n))) xs m zs m
+steps-stay regs xs n size c t {ys} {zs} m h l p e =
+    record {
+      voice = withPosition (enveloped regs n (voiceIn xs n)) c t;
+      does = arrive-on (Reader.Voice n) size (movedTo regs n c (voiceIn xs n)) t m l;
+      holds = record { formed = e .formed; state = twice (stateOf xs) (stateOf ys) (stateOf zs) n _ _ (p .state) (e .state ∙ rw (voice-put xs ys n _ h p)) };
+    }
 
-  module _ (e : Holds ys (withVoice (stateOf xs) n (enveloped regs n (voiceIn xs n)))) where
-    stepped : voiceIn ys n ≡ enveloped regs n (voiceIn xs n)
-    stepped = voice-put xs ys n _ h e
+-- both steps, past its end: v and s are the voice and its settings as the calls have them, e is its envelope then, x the voice that loads
+module _ (regs xs : List ℕ) (n size c t : ℕ) {v x : Voice} {s : Settings} {e : Envelope} (l : 27 < t) (es : s ≡ settingsOf regs n) (ev : v ≡ voiceIn xs n) (ee : e ≡ tickedOf (v .envelope) (s .low) (s .high))
+    (ex : x ≡ endedOf size (withPosition (withEnvelope v e) c (t - 28))) where
+  pub passed-in : t < 32 → c < 0x1000 → Sized size → InRange size (voiceIn xs n) → (x .source .address .0 % 8 ≡ 0) × (x .source .address .0 < size)
+  passed-in k o z r =
+      let i : InRange size (withPosition (withEnvelope v e) c (t - 28)) =
+      rw (ee, ev) (record { envelope = ticked-in _ _ _ (r .envelope); counter = o; index = omega arith; multiple = r .multiple; below = r .below }) in
+      let q = ended-in _ z i in
+      (rw ex (q .multiple), rw ex (q .below))
 
-    pub stepped-index : {size : ℕ} → InRange size (voiceIn xs n) → voiceIn ys n .position .index ≤ 27
-    stepped-index r = rw stepped (r .index)
-
-    pub stepped-below : {size : ℕ} {v : Voice} → v ≡ voiceIn ys n → InRange size (voiceIn xs n) → v .source .address .0 < size
-    stepped-below ev r = rw (ev, stepped) (r .below)
-
-    -- v is the voice then, x the voice past its block's end, which may load
-    module _ (size c t : ℕ) (l : 27 < t) {v x : Voice} (ev : v ≡ voiceIn ys n) (ex : x ≡ endedOf size (withPosition v c (t - 28))) where
-      pub passed-in : t < 32 → c < 0x1000 → Sized size → InRange size (voiceIn xs n) → (x .source .address .0 % 8 ≡ 0) × (x .source .address .0 < size)
-      passed-in k o z r =
-          let i : InRange size (withPosition v c (t - 28)) =
-          rw (ev, stepped) (record { envelope = ticked-in _ _ _ (r .envelope); counter = o; index = omega arith; multiple = r .multiple; below = r .below }) in
-          let q = ended-in _ z i in
-          (rw ex (q .multiple), rw ex (q .below))
-
-      pub steps-pass : {zs : List ℕ} {m o : Mem} → Becomes n (loadOf (Reader.Voice n) size x) ys m zs o → Becomes n (arriveOf (Reader.Voice n) size t (movedTo regs n c (voiceIn xs n))) xs m zs o
-      steps-pass {zs} b =
-          record {
-            voice = b .voice;
-            does = arrive-block (Reader.Voice n) size (movedTo regs n c (voiceIn xs n)) t l (ex ∙ rw (ev, stepped)) (b .does);
-            holds = record { formed = b .holds .formed; state = twice (stateOf xs) (stateOf ys) (stateOf zs) n _ _ (e .state) (b .holds .state) };
-          }
+  pub steps-pass : {ys : List ℕ} {m o : Mem} → Becomes n (loadOf (Reader.Voice n) size x) xs m ys o → Becomes n (arriveOf (Reader.Voice n) size t (movedTo regs n c (voiceIn xs n))) xs m ys o
+  steps-pass b = record { voice = b .voice; does = arrive-block (Reader.Voice n) size (movedTo regs n c (voiceIn xs n)) t l (ex ∙ rw (ee, ev, es)) (b .does); holds = b .holds }
 
 -- a tick of voice n: ys is the buffer once it has a block; c, t and a are what the fast path gives
 module _ (size : ℕ) (n : ℕ) (xs : List ℕ) {ys : List ℕ} {m o : Mem} (h : n < 24) (p : Becomes n (readyOf (Reader.Voice n) size (voiceIn xs n)) xs m ys o) where

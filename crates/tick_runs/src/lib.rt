@@ -2,13 +2,12 @@
 ghost use mathlib.Core.Path.{_≡_};
 ghost use mathlib.Core.Bool.{false};
 ghost use Prim.Native.Nat.{_%_, _<_};
-ghost use Rattle.envelope.specs.Adsr.{tickedOf};
 ghost use Rattle.gauss.specs.Gauss.{table as factors};
 ghost use Rattle.soundram.specs.Address.{Lent};
 ghost use Rattle.soundram.specs.Program.{memOf};
 ghost use Rattle.registers.specs.Map.{Flags};
 ghost use Rattle.voice.specs.Range as voice;
-ghost use Rattle.voice.specs.Voice.{withEnvelope, withPosition, loadOf, readyOf, arriveOf, isIdle};
+ghost use Rattle.voice.specs.Voice.{loadOf, readyOf, arriveOf, isIdle};
 ghost use Rattle.voices.specs.Voices.{Modulated, settingsOf, AllIn};
 ghost use Rattle.chip.specs.Range.{InRange};
 ghost use Rattle.tick.specs.Run.{joinOf, beginOf};
@@ -73,17 +72,7 @@ fn ready(state: &mut [u16], n: usize, size: u32, ram: &[u8], marks: &[u8], w: Wa
     load(state, n, v, size, ram, marks, w)
 }
 
-// The envelope of voice n takes its step.
-fn move_envelope(regs: &[u16; 256], pmon: u32, non: u32, state: &mut [u16], n: usize)
-    requires { ⌜ (n < 24) × Modulated (now regs) pmon × Flags (now regs) 0x194 non × Formed (now state) ⌝ }
-    ensures { λ _. ⌜ Holds (now (state .exit)) (withVoice (stateOf (now (state .entry))) n (enveloped (now (regs .entry)) n (voiceIn (now (state .entry)) n))) ⌝ }
-{
-    let s = voices::settings_by(regs, pmon, non, n);
-    let e = envelope_tick::tick(layout::envelope(state, n), s.low, s.high);
-    layout::put_envelope(state, n, e);
-}
-
-// The same. Most envelopes only wait, and look at no rate.
+// The envelope of voice n takes its step. Most only wait, and look at no rate.
 fn step_envelope(regs: &[u16; 256], pmon: u32, non: u32, state: &mut [u16], n: usize)
     requires { ⌜ (n < 24) × Modulated (now regs) pmon × Flags (now regs) 0x194 non × Formed (now state) ⌝ }
     ensures { λ _. ⌜ Holds (now (state .exit)) (withVoice (stateOf (now (state .entry))) n (enveloped (now (regs .entry)) n (voiceIn (now (state .entry)) n))) ⌝ }
@@ -93,7 +82,9 @@ fn step_envelope(regs: &[u16; 256], pmon: u32, non: u32, state: &mut [u16], n: u
         layout::put_wait(state, n, wait - 1);
         return;
     }
-    move_envelope(regs, pmon, non, state, n);
+    let s = voices::settings_by(regs, pmon, non, n);
+    let e = envelope_tick::tick(layout::envelope(state, n), s.low, s.high);
+    layout::put_envelope(state, n, e);
 }
 
 // Both steps of voice n, where the pitch step leads past the block's last sample.
@@ -113,12 +104,14 @@ fn pass_end(
     requires { ⌜ (n < 24) × Modulated (now regs) pmon × Flags (now regs) 0x194 non × Formed (now state) × voice.InRange size (voiceIn (now state) n) × (counter < 0x1000) × (27 < target) × (target < 32) × Lent size (now ram) (now marks) ⌝ }
     ensures { λ r. ⌜ Becomes n (arriveOf (Reader.Voice n) size target (movedTo (now (regs .entry)) n counter (voiceIn (now (state .entry)) n))) (now (state .entry)) (memOf (now (ram .entry)) (now (marks .entry)) w) (now (state .exit)) (memOf (now (ram .entry)) (now (marks .entry)) r) ⌝ }
 {
-    move_envelope(regs, pmon, non, state, n);
+    let s = voices::settings_by(regs, pmon, non, n);
+    let mut v = layout::voice(state, n);
+    let envelope = envelope_tick::tick(v.envelope, s.low, s.high);
     let position = Position {
         counter,
         index: (target - 28) as u8,
     };
-    let mut v = layout::voice(state, n);
+    v.envelope = envelope;
     v.position = position;
     let past = voice_block::end(size, v);
     load(state, n, past, size, ram, marks, w)

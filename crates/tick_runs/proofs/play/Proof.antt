@@ -1,4 +1,3 @@
-use mathlib.Core.Path.{refl}
 use mir.Facts.{toZ-ofZ}
 use Rattle.pitch.proofs.Laws.{moved-counter}
 use Rattle.tick_runs.proofs.Voices.{ready-in-range, play-plays}

@@ -1,4 +1,4 @@
-use Rattle.tick_runs.proofs.Voices.{waits-once, waits-holds}
+use Rattle.tick_runs.proofs.Voices.{waits-once, waits-holds, steps-holds}
 use borrow.Author.Needs.{needs}
 use Rattle.tick_runs.proofs.step_envelope.Statement.{statement}
 use Rattle.tick_runs.proofs.step_envelope.Tie as tie
@@ -21,14 +21,23 @@ same-length c = search needs
 returns : tie.Need-returns
 returns c = waits-holds _ _ _ _ (c .before .before .before .before .before .before .before .wait .ensures) (c .before .before .before .before .before .is-active .ensures) (c .before .before .before .before .if1 .taken) (c .before .before .put-wait .ensures)
 
-move-envelope-requires : tie.Need-move-envelope-requires
-move-envelope-requires c κs = search needs
+settings-by-requires : tie.Need-settings-by-requires
+settings-by-requires c κs = search needs
+
+envelope-requires : tie.Need-envelope-requires
+envelope-requires c κs = search needs
+
+tick-requires : tie.Need-tick-requires
+tick-requires c κs = search needs
+
+put-envelope-requires : tie.Need-put-envelope-requires
+put-envelope-requires c κs = search needs
 
 same-length-2 : tie.Need-same-length-2
 same-length-2 c = search needs
 
 returns-2 : tie.Need-returns-2
-returns-2 c = search needs
+returns-2 c = steps-holds _ _ (c .before .before .before .before .before .before .before .settings-by .ensures) (c .before .before .before .before .before .envelope .ensures) (c .before .before .before .before .tick .ensures) (c .before .before .put-envelope .ensures)
 
 pub step-envelope-spec : {M : Type 1} → statement M
 step-envelope-spec =
@@ -40,6 +49,9 @@ step-envelope-spec =
     put-wait-requires
     same-length
     returns
-    move-envelope-requires
+    settings-by-requires
+    envelope-requires
+    tick-requires
+    put-envelope-requires
     same-length-2
     returns-2)

@@ -30,7 +30,7 @@ returns-2 c =
     let t = c .before .before .before .before .before .before .before .before .if1 .left in
     let p = c .before .before .before .before .before .before .put-position .ensures in
     let e = c .before .before .step-envelope .ensures in
-    steps-stay _ _ _ (z .0) _ _ _ _ t p e
+    steps-stay _ _ _ _ _ _ _ (z .0) t p e
 
 pub take-steps-spec : {M : Type 1} → statement M
 take-steps-spec =
