@@ -1,10 +1,10 @@
 -- The voices of a tick, which change in place. Assumes nothing.
 use mathlib.Core.Path.{_≡_, refl, sym, _∙_}
-use mathlib.Core.Bool.{Bool, true, false, _&&_}
+use mathlib.Core.Bool.{Bool, true, false, _&&_, not}
 use mathlib.Core.List.{List}
 use Prim.Native.Nat.{ℕ, _+_, _-_, _%_, _≤_, _<_}
 use native.Mathlib.Omega.{arith}
-use borrow.Author.Tests.{ltb-true}
+use borrow.Author.Tests.{ltb-true, not-true, not-false}
 use lib.Dec.{ltb}
 use lib.ListN.{length, set}
 use lib.Seq.{getD-set-same, set-getD}
@@ -64,12 +64,12 @@ loaded-place who size v d e l z =
 
 module _ (xs : List ℕ) (n size : ℕ) where
   -- l says whether the voice has a block
-  pub ready-has : (m : Mem) {l : Bool} → Formed xs → l ≡ voiceIn xs n .playing .loaded → l ≡ true → Becomes n (readyOf (Reader.Voice n) size (voiceIn xs n)) xs m xs m
-  ready-has m f e t = record { voice = voiceIn xs n; does = ready-loaded (Reader.Voice n) size (voiceIn xs n) (sym e ∙ t); holds = same-voice xs n f }
+  pub ready-has : (m : Mem) {l : Bool} → Formed xs → l ≡ voiceIn xs n .playing .loaded → not l ≡ false → Becomes n (readyOf (Reader.Voice n) size (voiceIn xs n)) xs m xs m
+  ready-has m f e t = record { voice = voiceIn xs n; does = ready-loaded (Reader.Voice n) size (voiceIn xs n) (sym e ∙ not-false _ t); holds = same-voice xs n f }
 
-  pub ready-none : {l : Bool} {v : Voice} {ys : List ℕ} {m o : Mem} → l ≡ voiceIn xs n .playing .loaded → l ≡ false → v ≡ voiceIn xs n → Becomes n (loadOf (Reader.Voice n) size v) xs m ys o
+  pub ready-none : {l : Bool} {v : Voice} {ys : List ℕ} {m o : Mem} → l ≡ voiceIn xs n .playing .loaded → not l ≡ true → v ≡ voiceIn xs n → Becomes n (loadOf (Reader.Voice n) size v) xs m ys o
       → Becomes n (readyOf (Reader.Voice n) size (voiceIn xs n)) xs m ys o
-  ready-none e t ev b = record { voice = b .voice; does = ready-loads (Reader.Voice n) size (voiceIn xs n) (sym e ∙ t) (rw (← ev) (b .does)); holds = b .holds }
+  ready-none e t ev b = record { voice = b .voice; does = ready-loads (Reader.Voice n) size (voiceIn xs n) (sym e ∙ not-true _ t) (rw (← ev) (b .does)); holds = b .holds }
 
 -- both steps, where the voice stays in its block: c and t are the counter and the sample that it comes to
 pub steps-stay : (regs xs : List ℕ) (n size c t : ℕ) {ys zs : List ℕ} (m : Mem) → n < 24 → t ≤ 27 → Holds ys (withVoice (stateOf xs) n (withPosition (voiceIn xs n) c t))

@@ -1,20 +1,19 @@
 // A run of ticks, on the buffer: the voices change in place, and what else a tick changes stays in locals from the first tick to the last.
 ghost use mathlib.Core.Path.{_≡_};
-ghost use mathlib.Core.Bool.{false};
 ghost use Prim.Native.Nat.{_%_, _<_};
 ghost use Rattle.gauss.specs.Gauss.{table as factors};
 ghost use Rattle.soundram.specs.Address.{Lent};
 ghost use Rattle.soundram.specs.Program.{memOf};
 ghost use Rattle.registers.specs.Map.{Flags};
 ghost use Rattle.voice.specs.Range as voice;
-ghost use Rattle.voice.specs.Voice.{loadOf, readyOf, arriveOf, isIdle};
-ghost use Rattle.voices.specs.Voices.{Modulated, settingsOf, AllIn};
+ghost use Rattle.voice.specs.Voice.{loadOf, arriveOf};
+ghost use Rattle.voices.specs.Voices.{Modulated, AllIn};
 ghost use Rattle.chip.specs.Range.{InRange};
 ghost use Rattle.tick.specs.Run.{joinOf, beginOf};
 ghost use Rattle.layout.specs.Layout.{stateOf, voiceIn, Formed, Holds};
 ghost use Rattle.layout.specs.Stores.{withVoice};
-ghost use Rattle.fast_path.specs.Steady.{steadyOf, Steps};
-ghost use Rattle.tick_runs.specs.Run.{Becomes, enveloped, movedTo, Plays, PlaysAll, Runs};
+ghost use Rattle.fast_path.specs.Steady.{Steps};
+ghost use Rattle.tick_runs.specs.Run.{Becomes, enveloped, movedTo, PlaysAll, Runs};
 use chip::Control;
 use soundram::Reader;
 use soundram::Watch;
@@ -22,12 +21,6 @@ use tick::Going;
 use tick::Rest;
 use voice::Position;
 use voice::Voice;
-
-// What a voice gives in its tick.
-struct Played {
-    amplitude: i16,
-    watch: Watch,
-}
 
 // The amplitudes of all voices.
 struct AllPlayed {
@@ -58,18 +51,6 @@ fn load(
     let after = l.voice;
     layout::put_voice(state, n, after);
     l.watch
-}
-
-// Voice n, if it has no block, loads one.
-fn ready(state: &mut [u16], n: usize, size: u32, ram: &[u8], marks: &[u8], w: Watch) -> Watch
-    requires { ⌜ (n < 24) × Formed (now state) × voice.InRange size (voiceIn (now state) n) × Lent size (now ram) (now marks) ⌝ }
-    ensures { λ r. ⌜ Becomes n (readyOf (Reader.Voice n) size (voiceIn (now (state .entry)) n)) (now (state .entry)) (memOf (now (ram .entry)) (now (marks .entry)) w) (now (state .exit)) (memOf (now (ram .entry)) (now (marks .entry)) r) ⌝ }
-{
-    if layout::loaded(state, n) {
-        return w;
-    }
-    let v = layout::voice(state, n);
-    load(state, n, v, size, ram, marks, w)
 }
 
 // The envelope of voice n takes its step. Most only wait, and look at no rate.
@@ -117,84 +98,7 @@ fn pass_end(
     load(state, n, past, size, ram, marks, w)
 }
 
-// Both steps of voice n, of which the pitch step leads to the sample target.
-fn take_steps(
-    regs: &[u16; 256],
-    pmon: u32,
-    non: u32,
-    state: &mut [u16],
-    n: usize,
-    counter: u16,
-    target: u32,
-    size: u32,
-    ram: &[u8],
-    marks: &[u8],
-    w: Watch,
-) -> Watch
-    requires { ⌜ (n < 24) × Modulated (now regs) pmon × Flags (now regs) 0x194 non × Formed (now state) × voice.InRange size (voiceIn (now state) n) × (counter < 0x1000) × (target < 32) × Lent size (now ram) (now marks) ⌝ }
-    ensures { λ r. ⌜ Becomes n (arriveOf (Reader.Voice n) size target (movedTo (now (regs .entry)) n counter (voiceIn (now (state .entry)) n))) (now (state .entry)) (memOf (now (ram .entry)) (now (marks .entry)) w) (now (state .exit)) (memOf (now (ram .entry)) (now (marks .entry)) r) ⌝ }
-{
-    if 27 < target {
-        return pass_end(
-            regs,
-            pmon,
-            non,
-            state,
-            n,
-            counter,
-            target,
-            size,
-            ram,
-            marks,
-            w,
-        );
-    }
-    layout::put_position(state, n, counter, target as u16);
-    step_envelope(regs, pmon, non, state, n);
-    w
-}
-
-// Voice n plays its tick, in document 01's five steps. Most voices stay in their block and load none.
-fn play(
-    table: &[i16; 512],
-    regs: &[u16; 256],
-    pmon: u32,
-    non: u32,
-    step: u16,
-    size: u32,
-    state: &mut [u16],
-    n: usize,
-    below: i16,
-    level: u16,
-    ram: &[u8],
-    marks: &[u8],
-    w: Watch,
-) -> Played
-    requires { ⌜ (now table ≡ factors) × (n < 24) × Modulated (now regs) pmon × Flags (now regs) 0x194 non × (step ≡ steadyOf (settingsOf (now regs) n)) × Formed (now state) × (isIdle (voiceIn (now state) n .envelope .phase) ≡ false) × voice.InRange size (voiceIn (now state) n) × Lent size (now ram) (now marks) ⌝ }
-    ensures { λ r. ⌜ Plays size (now (regs .entry)) n below level (now (state .entry)) (memOf (now (ram .entry)) (now (marks .entry)) w) (r .amplitude) (now (state .exit)) (memOf (now (ram .entry)) (now (marks .entry)) (r .watch)) ⌝ }
-{
-    let first = ready(state, n, size, ram, marks, w);
-    let m = fast_path::stay(table, regs, pmon, non, state, n, step, below, level);
-    let watch = take_steps(
-        regs,
-        pmon,
-        non,
-        state,
-        n,
-        m.counter,
-        m.target,
-        size,
-        ram,
-        marks,
-        first,
-    );
-    Played {
-        amplitude: m.amplitude,
-        watch,
-    }
-}
-
-// All voices play a tick, one after the other.
+// All voices play a tick, one after the other, each in document 01's five steps. Most stay in their block, on the fast path.
 fn play_all(
     table: &[i16; 512],
     regs: &[u16; 256],
@@ -222,26 +126,35 @@ fn play_all(
             n = n + 1;
             continue;
         }
+        if !layout::loaded(state, n) {
+            let v = layout::voice(state, n);
+            let seen = load(state, n, v, size, ram, marks, watch);
+            watch = seen;
+        }
         let step = steps[n];
-        let p = play(
-            table,
-            regs,
-            pmon,
-            non,
-            step,
-            size,
-            state,
-            n,
-            below,
-            level,
-            ram,
-            marks,
-            watch,
-        );
-        let seen = p.watch;
-        watch = seen;
-        below = p.amplitude;
+        let m = fast_path::stay(table, regs, pmon, non, state, n, step, below, level);
+        below = m.amplitude;
         amplitudes[n] = below;
+        if 27 < m.target {
+            let seen = pass_end(
+                regs,
+                pmon,
+                non,
+                state,
+                n,
+                m.counter,
+                m.target,
+                size,
+                ram,
+                marks,
+                watch,
+            );
+            watch = seen;
+            n = n + 1;
+            continue;
+        }
+        layout::put_position(state, n, m.counter, m.target as u16);
+        step_envelope(regs, pmon, non, state, n);
         n = n + 1;
     }
     AllPlayed { amplitudes, watch }
