@@ -1,12 +1,12 @@
 -- A state passes the tests of number 2 exactly when it is in range. Assumes nothing.
-use mathlib.Core.Path.{_≡_, refl, sym, _∙_}
+use mathlib.Core.Path.{_≡_, refl}
 use mathlib.Core.Bool.{Bool, true, false, _||_, not, false≢true}
 use mathlib.Core.List.{List, [], _∷_}
 use Prim.Native.Nat.{ℕ, zero, suc, _≤_, _<_}
 use native.Mathlib.Omega.{arith}
 use lib.Dec.{eqb, leb}
 use lib.ListN.{getD}
-use borrow.Author.Tests.{not-true, ltb-true, leb-true, eqb-true, lt-ltb, le-leb, eq-eqb}
+use borrow.Author.Tests.{ltb-true, leb-true, eqb-true, lt-ltb, le-leb, eq-eqb}
 use Rattle.fixed.proofs.Bools.{and-first, and-rest, all-at, all-true}
 use Rattle.soundram.specs.Address.{Sized}
 use Rattle.voice.specs.declared.Voice.{Voice}
@@ -126,8 +126,3 @@ passes s r =
     all-of (more (r .size) (more (at-every _ (s .voices) 24 (r .voices .each)) (more (eq-eqb _ _ (r .capture .even)) (more (lt-ltb _ _ (r .capture .below))
     (more (eq-eqb _ _ (r .place .even)) (more (le-leb _ _ (r .place .least)) (more (le-leb _ _ (r .place .most)) (more (eq-eqb _ _ (r .transfer .even))
     (more (lt-ltb _ _ (r .transfer .below)) (more (le-leb _ _ (r .noise .timer)) none))))))))))
-
--- z is the code's test of L
-pub tested-size : (s : State) {z : Bool} → z ≡ sizeOk (s .choices .size) → not z ≡ true → false ≡ stateOk s
-unfolding stateOk allOf
-tested-size s e f = rw (sym e ∙ not-true _ f)

@@ -276,10 +276,6 @@ pub skip : (b : Bool) (bs : List Bool) → allOf (b ∷ bs) ≡ true → allOf b
 unfolding allOf
 skip b bs e = and-rest b (allOf bs) e
 
-pub keep : (b : Bool) (bs cs : List Bool) → allOf (b ∷ bs) ≡ true → (allOf bs ≡ true → allOf cs ≡ true) → allOf (b ∷ cs) ≡ true
-unfolding allOf
-keep b bs cs e f = rw (and-first b (allOf bs) e) (f (and-rest b (allOf bs) e))
-
 pub held : {b : Bool} (bs : List Bool) → b ≡ true → allOf bs ≡ true → allOf (b ∷ bs) ≡ true
 unfolding allOf
 held bs h e = rw h e

@@ -5,7 +5,7 @@ use mathlib.Core.List.{List}
 use Prim.Native.Nat.{ℕ}
 use Rattle.fixed.proofs.Bools.{and-first, and-rest}
 use Rattle.chip.specs.Range.{InRange}
-use Rattle.chip.proofs.Tests.{in-range, passes}
+use Rattle.chip.proofs.Tests.{in-range}
 use Rattle.layout.specs.Layout.{stateOf, isWellFormed, isState, Formed}
 use Rattle.layout.proofs.Laws.{formed, registers-count, voices-count}
 
@@ -17,7 +17,3 @@ module _ (xs : List ℕ) where
   pub state-in-range : isState xs ≡ true → InRange (stateOf xs)
   unfolding isState
   state-in-range e = in-range (stateOf xs) (and-rest (isWellFormed xs) _ e) (record { regs = registers-count xs; voices = voices-count xs })
-
-  pub formed-state : Formed xs → InRange (stateOf xs) → isState xs ≡ true
-  unfolding isState
-  formed-state f r = rw (f .form) (passes (stateOf xs) r)

@@ -1,10 +1,10 @@
 -- The programs of a voice, from what the code's parts do. Assumes nothing.
-use mathlib.Core.Path.{_≡_, refl, sym, subst, _∙_}
-use mathlib.Core.Bool.{Bool, true, false, not}
+use mathlib.Core.Path.{_≡_, sym, subst, _∙_}
+use mathlib.Core.Bool.{Bool, true, false}
 use mathlib.Core.List.{List}
 use Prim.Native.Nat.{ℕ, _+_, _-_, _≤_, _<_}
 use lib.IntN.{ℤ, pos}
-use borrow.Author.Tests.{lt-ltb, le-ltb, not-false}
+use borrow.Author.Tests.{lt-ltb, le-ltb}
 use Rattle.envelope.specs.declared.Envelope.{Envelope}
 use Rattle.envelope.specs.Adsr.{tickedOf}
 use Rattle.pitch.specs.declared.Moved.{Moved}
@@ -14,7 +14,7 @@ use Rattle.soundram.specs.Program.{Mem, Does, bytesFrom}
 use Rattle.soundram.proofs.Programs.{does-done, does-give, does-bind, does-yes, does-no}
 use Rattle.voice.specs.declared.Voice.{Voice}
 use Rattle.voice.specs.declared.Settings.{Settings}
-use Rattle.voice.specs.Voice.{withEnvelope, withPosition, filledOf, loadOf, endedOf, readyOf, amplitudeOf, movementOf, steppedOf, targetOf, arriveOf, movesOf, isIdle, tickOf}
+use Rattle.voice.specs.Voice.{withEnvelope, withPosition, filledOf, loadOf, endedOf, readyOf, amplitudeOf, steppedOf, targetOf, arriveOf, movesOf, isIdle, tickOf}
 
 module _ (who : Reader) (size : ℕ) (v : Voice) where
   pub load-does : {w : Voice} {bytes : List ℕ} {m n : Mem} → Does (bytesFrom who size (v .source .address) 8) m bytes n → w ≡ filledOf v bytes → Does (loadOf who size v) m w n
@@ -67,16 +67,3 @@ module _ (s : Settings) (below : ℤ) (v : Voice) {a : ℤ} {p : ℕ} {r : Moved
   pub stepped-target : v .position .index + r .moves ≡ targetOf s below v
   unfolding targetOf
   stepped-target = rw (g, q, b)
-
--- a tick that stays in the block: i says whether the voice is idle, t and c are where it comes to, e is its envelope, and a its amplitude
-pub tick-stays : (who : Reader) (size : ℕ) (v : Voice) (s : Settings) (below : ℤ) (level : ℕ) {i : Bool} {e : Envelope} {c t : ℕ} {a : ℤ} (m : Mem)
-    → i ≡ isIdle (v .envelope .phase) → i ≡ false → not (v .playing .loaded) ≡ false → c ≡ movementOf s below v .counter → t ≡ targetOf s below v → t ≤ 27
-    → a ≡ amplitudeOf s level v → e ≡ tickedOf (v .envelope) (s .low) (s .high)
-    → Does (tickOf who size s below level v) m (record { voice = withPosition (withEnvelope v e) c t; amplitude = a }) m
-unfolding steppedOf
-tick-stays who size v s below level {e} {c} {t} m j f l p q h r u =
-    tick-sounds who size v s below level j f (ready-loaded who size v (not-false (v .playing .loaded) l)) r refl refl
-    (moves-does who size v s below refl refl q (subst (λ (w : Voice). Does (arriveOf who size t (steppedOf s below v)) m w m) same (arrive-on who size (steppedOf s below v) t m h)))
-  where
-    same : withPosition (steppedOf s below v) (steppedOf s below v .position .counter) t ≡ withPosition (withEnvelope v e) c t
-    same = rw (u, p)
