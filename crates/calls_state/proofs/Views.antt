@@ -1,12 +1,13 @@
 -- The block view of a buffer's state, from its number. Assumes nothing.
 use mathlib.Core.Path.{_≡_, refl, sym, _∙_}
-use mathlib.Core.Bool.{Bool, true, false, not, _||_}
+use mathlib.Core.Bool.{Bool, true, false, cond, not, _||_}
 use mathlib.Core.List.{List, [], _∷_}
 use Prim.Native.Nat.{ℕ, suc, _+_, _-_, _%_, _≤_}
 use native.Mathlib.Omega.{arith}
 use borrow.Author.Tests.{eqb-true, ltb-false, not-false, ne-eqb, eq-eqb}
 use lib.Dec.{eqb, ltb}
-use lib.ListN.{length, take, drop}
+use lib.ListN.{length, take, drop, length-drop}
+use lib.Seq.{length-take-le}
 use Rattle.fixed.proofs.Bools.{or-rest}
 use Rattle.chip.proofs.Tests.{ok-sized}
 use Rattle.layout.specs.Layout.{stateOf, isTagged, isState, Halfwords}
@@ -93,3 +94,15 @@ view-inside xs a k e z =
     let l : k ≡ stateOf xs .choices .size = eqb-true _ _ (not-false _ (passed-first _ 0 _ p)) in
     let t : a ≤ stateOf xs .choices .size - 16 = ltb-false _ _ (or-rest (not (eqb (a % 8) 0)) _ (passed-first _ 7 _ (passed-rest _ 1 _ q))) in
     omega arith
+
+-- "of a block view, the number and the length": the length that the call answers is that of the bytes
+pub view-answer : (xs ram : List ℕ) (a : ℕ) → viewLength (numberIn (view a) xs (length ram) 0) ≡ length (viewOf xs ram a)
+unfolding viewOf
+view-answer xs ram a = by (eqb (numberIn (view a) xs (length ram) 0) 0) refl
+  where
+    by : (b : Bool) → eqb (numberIn (view a) xs (length ram) 0) 0 ≡ b → cond b 16 0 ≡ length (cond b (take 16 (drop a ram)) [])
+    by true q =
+        let h = view-inside xs a (length ram) refl (eqb-true _ _ q) in
+        let d = length-drop a ram in
+        sym (length-take-le 16 (drop a ram) (omega arith))
+    by false q = refl

@@ -1,7 +1,7 @@
 // One voice: its block, its place in it, its envelope; key on and off. What it does in a tick is defined here too.
 ghost use mathlib.Core.Path.{_≡_};
 ghost use Prim.Native.Nat.{_<_};
-ghost use Rattle.voice.specs.Voice.{fresh as freshVoice, keyedOn, keyedOff, stoppedOf, isIdle, goesOff};
+ghost use Rattle.voice.specs.Voice.{fresh as freshVoice, keyedOn, keyedOff, isIdle, goesOff};
 use envelope::Envelope;
 use envelope::Phase;
 use soundram::ByteAddress;
@@ -111,17 +111,6 @@ pub fn key_off(v: Voice, low: u16, high: u16) -> Voice
         return w;
     }
     v
-}
-
-// A voice that SPUCNT stops.
-pub fn stop(v: Voice) -> Voice
-    ensures { λ r. ⌜ r ≡ stoppedOf v ⌝ }
-{
-    let f = Voice::fresh();
-    let e = f.envelope;
-    let mut w = v;
-    w.envelope = e;
-    w
 }
 
 pub fn is_idle(phase: Phase) -> bool
