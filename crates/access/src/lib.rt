@@ -1,4 +1,6 @@
 // Accesses to sound RAM: a halfword read or written, and what each notices.
+#![tactic(auto)]
+
 ghost use Rattle.std.specs.Prelude.{◌≡◌, ◌||◌, not, ◌+◌, ◌*◌, ◌/◌, ◌<◌, length};
 ghost use Rattle.soundram.specs.Address.{halfword_of, Within};
 ghost use Rattle.soundram.specs.Memory.{half, put_half, marked, mark, latched};
@@ -7,7 +9,7 @@ ghost use Rattle.soundram.specs.Program.{Does, mem_of, get, put};
 use soundram::{ByteAddress, Reader, Watch};
 
 // What one read gives.
-#[derive(Drop)]
+#[derive(Clone, Copy)]
 pub struct Got {
     pub value: u16,
     pub watch: Watch,

@@ -1,4 +1,6 @@
 // A block loaded from sound RAM.
+#![tactic(auto)]
+
 ghost use Rattle.std.specs.Prelude.{◌≡◌, ◌||◌, ◌&&◌, ◌/◌, ◌<◌, eqb};
 ghost use Rattle.soundram.specs.Address.{Lent};
 ghost use Rattle.soundram.specs.Program.{Does, mem_of, bytes_from};
@@ -6,7 +8,7 @@ ghost use Rattle.soundram.specs.Program.{Does, mem_of, bytes_from};
 use soundram::{ByteAddress, Reader, Watch};
 
 // What a block load gives: the block's bytes.
-#[derive(Drop)]
+#[derive(Clone, Copy)]
 pub struct Block {
     pub bytes: [u8; 16],
     pub watch: Watch,

@@ -1,11 +1,13 @@
 // ADPCM: the samples that a block of 16 bytes holds.
+#![tactic(auto)]
+
 ghost use Rattle.std.specs.Prelude.{◌≡◌, ℕ, ◌+◌, ◌≤◌, ◌<◌, length, get_or, pos, ◌+ℤ◌, ◌*ℤ◌};
 ghost use Rattle.fixed.specs.Range.{In};
 ghost use Rattle.fixed.specs.Arithmetic.{floor_div};
 ghost use Rattle.adpcm.specs.Adpcm.{acts_as, header_of, k0_of, k1_of, sample_of, block_of};
 
 // How a block's samples are coded.
-#[derive(Drop)]
+#[derive(Clone, Copy)]
 pub struct Header {
     pub shift: u8,
     pub filter: u8,
@@ -13,7 +15,7 @@ pub struct Header {
 
 // The last two samples of a sound.
 #[repr(C)]
-#[derive(Drop)]
+#[derive(Clone, Copy)]
 pub struct History {
     pub old: i16,
     pub older: i16,

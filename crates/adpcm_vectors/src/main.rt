@@ -1,5 +1,7 @@
 // Decodes the blocks of spu-adpcm.spu, one after the other, and writes the 28 samples of each on a line. The expected output is an
 // outside decoder's.
+#![tactic(auto)]
+
 use libc::STDOUT_FILENO;
 
 const BLOCKS: u32 = 288;

@@ -1,5 +1,7 @@
 // The lines that the programs answer, put into lent bytes at a place: their parts, and the short lines. Each function answers the
 // next place.
+#![tactic(auto)]
+
 ghost use Rattle.std.specs.Prelude.{◌<◌, ◌≤◌};
 ghost use Rattle.text.specs.Text.{Prints};
 ghost use Rattle.answers.specs.Answer.{decimal_part, flag_part, hex_part, reports_part, start_of, write_text, read_text, moved_of, inward_text, reset_text, refused_text, bench_number, write_answer, inward_answer, title_text, end_text};

@@ -1,4 +1,6 @@
 // The lines that show halfwords, bytes and marks, put into lent bytes at a place. Each function answers the next place.
+#![tactic(auto)]
+
 ghost use Rattle.std.specs.Prelude.{◌≡◌, ◌+◌, ◌<◌, ◌/◌, ◌^◌, length, get_or};
 ghost use Rattle.soundram.specs.Memory.{marked as markedAt};
 ghost use Rattle.text.specs.Text.{Prints};

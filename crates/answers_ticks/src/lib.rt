@@ -1,4 +1,6 @@
 // The lines that answer ticks, put into lent bytes at a place. Each function answers the next place.
+#![tactic(auto)]
+
 ghost use Rattle.std.specs.Prelude.{◌≡◌};
 ghost use Rattle.text.specs.Text.{Prints};
 ghost use Rattle.answers.specs.Answer.{signed_part, pair_part, hex_part, doubt_end, end_part, tick_start, tick_text, bits_of, floats_part, floats_text, bench_text, tick_answer};

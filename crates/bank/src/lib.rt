@@ -1,4 +1,6 @@
 // Sound banks: where one is damaged, its entries, and a lookup in two of them.
+#![tactic(auto)]
+
 ghost use Rattle.std.specs.Prelude.{◌≡◌, true, ◌+◌, ◌*◌, ◌≤◌, ◌<◌, length};
 ghost use Rattle.bank.specs.Bank.{count_of, place_of, header_end, entry_at, is_header, is_sound as isSoundOf, is_alias as isAliasOf, is_entry as isEntryOf, damage_of, is_good as isGoodOf, sound_of, found_in, found_of, lookup_of, nothing as nothingOf, fields_of};
 
@@ -6,7 +8,7 @@ use little_endian::{half_at, word_at};
 
 pub const MOST_ENTRIES: usize = 1024;
 
-#[derive(Drop)]
+#[derive(Clone, Copy)]
 pub struct Entry {
     pub kind: u16,
     pub offset: u32,
@@ -14,7 +16,7 @@ pub struct Entry {
 }
 
 // Where a bank is damaged first.
-#[derive(Drop)]
+#[derive(Clone, Copy)]
 pub enum Damage {
     Nowhere,
     InHeader,
@@ -22,7 +24,7 @@ pub enum Damage {
 }
 
 // An entry's fields, or why there are none.
-#[derive(Drop)]
+#[derive(Clone, Copy)]
 pub struct Fields {
     pub number: u8,
     pub entry: Entry,
@@ -30,7 +32,7 @@ pub struct Fields {
 
 // What a lookup finds: in which bank, the sound's own entry, and where its bytes are.
 #[repr(C)]
-#[derive(Drop)]
+#[derive(Clone, Copy)]
 pub struct Found {
     pub number: u8,
     pub house: bool,

@@ -1,4 +1,6 @@
 // A sound bank, written from lists of its entries' fields and its data.
+#![tactic(auto)]
+
 ghost use Rattle.std.specs.Prelude.{◌≡◌, ◌+◌, ◌≤◌, length};
 ghost use Rattle.little_endian.specs.Bytes.{Put};
 ghost use Rattle.bank.specs.Bank.{most_entries, place_of, damage_below, is_nowhere};
@@ -9,7 +11,7 @@ use little_endian::{put_half, put_word};
 
 // What a write answers. The length is 0 if it is refused.
 #[repr(C)]
-#[derive(Drop)]
+#[derive(Clone, Copy)]
 pub struct Written {
     pub number: u8,
     pub length: usize,

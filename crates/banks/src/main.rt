@@ -1,5 +1,7 @@
 // Reads two banks and writes what each call says of them, a line a call, with every byte of the sounds found. The expected output is that of the
 // reference, reference/banks.py, which makes both files.
+#![tactic(auto)]
+
 ghost use Rattle.std.specs.Prelude.{◌≡◌, ◌≤◌, length};
 ghost use Rattle.io.specs.Counts.{IsPrefixLen};
 

@@ -1,4 +1,6 @@
 // The program bench again, on a few notes, the last of a sample that nobody loaded.
+#![tactic(auto)]
+
 fn main() {
     sessions::bench();
 }

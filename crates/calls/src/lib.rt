@@ -1,5 +1,7 @@
 // The calls on a state in the buffer that a caller lends: what each is, and the numbers that they share. The crates over this one are the calls, which
 // host/tenonwhisk.h declares.
+#![tactic(auto)]
+
 ghost use Rattle.std.specs.Prelude.{◌≡◌, [], ◌∷◌};
 ghost use Rattle.layout.specs.Layout.{state_of, is_state};
 ghost use Rattle.spu.specs.Step.{outside, lent_tests};

@@ -1,4 +1,6 @@
 // Calls on a lent state: make, reset, status, register writes and reads, and the block view.
+#![tactic(auto)]
+
 ghost use Rattle.std.specs.Prelude.{◌≡◌, false, cond, List, ℕ, length};
 ghost use Rattle.chip.specs.State.{fresh_of, size_ok};
 ghost use Rattle.layout.specs.Layout.{state_length, Holds};
@@ -6,14 +8,14 @@ ghost use Rattle.spu.specs.Step.{written, value as valued, made, viewed, looked,
 ghost use Rattle.calls.specs.Kept.{number_in, Keeps, KeepsStill, make_of, view_of, view_length};
 
 #[repr(C)]
-#[derive(Drop)]
+#[derive(Clone, Copy)]
 pub struct Reading {
     pub number: u8,
     pub value: u16,
 }
 
 #[repr(C)]
-#[derive(Drop)]
+#[derive(Clone, Copy)]
 pub struct Status {
     pub number: u8,
     pub doubt: bool,

@@ -1,4 +1,6 @@
 // Calls on a lent state: one tick, and many.
+#![tactic(auto)]
+
 ghost use Rattle.std.specs.Prelude.{◌≡◌, map, length};
 ghost use Rattle.stereo.specs.Float.{float_of};
 ghost use Rattle.layout.specs.Layout.{state_of, is_state};
@@ -6,7 +8,7 @@ ghost use Rattle.spu.specs.Step.{pair, floats as floated, ran, ran_floats, tick 
 ghost use Rattle.calls.specs.Kept.{tested_of, Keeps, reports};
 
 #[repr(C)]
-#[derive(Drop)]
+#[derive(Clone, Copy)]
 pub struct Ticked {
     pub number: u8,
     pub irq: bool,
@@ -16,7 +18,7 @@ pub struct Ticked {
 }
 
 #[repr(C)]
-#[derive(Drop)]
+#[derive(Clone, Copy)]
 pub struct TickedFloats {
     pub number: u8,
     pub irq: bool,
@@ -27,7 +29,7 @@ pub struct TickedFloats {
 
 // How many ticks there were, and which of them raised the interrupt and which the doubt; the number of ticks if none did.
 #[repr(C)]
-#[derive(Drop)]
+#[derive(Clone, Copy)]
 pub struct Ran {
     pub number: u8,
     pub count: usize,

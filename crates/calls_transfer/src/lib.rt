@@ -1,4 +1,6 @@
 // Calls on a lent state: halfwords moved into and out of sound RAM.
+#![tactic(auto)]
+
 ghost use Rattle.std.specs.Prelude.{◌≡◌, false, ◌&&◌, not, ◌%◌, length};
 ghost use Rattle.chip.specs.State.{with_transfer, watched_of};
 ghost use Rattle.layout.specs.Layout.{state_length, state_of, is_state, Formed, Holds, Halfwords};
@@ -10,7 +12,7 @@ use transfer::Moved as Ended;
 
 // What a transfer gives: how many halfwords moved.
 #[repr(C)]
-#[derive(Drop)]
+#[derive(Clone, Copy)]
 pub struct Moved {
     pub number: u8,
     pub irq: bool,

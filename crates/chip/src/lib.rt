@@ -1,8 +1,10 @@
 // Parts of the state of the chip.
+#![tactic(auto)]
+
 use soundram::ByteAddress;
 
 // SPUCNT's bits 5-0 as the last tick took them, the interrupt latch, and the doubt.
-#[derive(Drop)]
+#[derive(Clone, Copy)]
 pub struct Control {
     pub applied: u16,
     pub latch: bool,
@@ -10,13 +12,13 @@ pub struct Control {
 }
 
 // A side's output, already multiplied, till its next turn.
-#[derive(Drop)]
+#[derive(Clone, Copy)]
 pub struct Held {
     pub left: i16,
     pub right: i16,
 }
 
-#[derive(Drop)]
+#[derive(Clone, Copy)]
 pub struct Reverb {
     pub place: ByteAddress,
     pub right: bool,

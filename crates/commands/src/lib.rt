@@ -1,11 +1,13 @@
 // The command that a line gives: the lines of the core's calls. Of a field that was read and
 // passed its test, the remainder is the number itself.
+#![tactic(auto)]
+
 ghost use Rattle.std.specs.Prelude.{◌≡◌};
 ghost use Rattle.commands.specs.Command.{write_of, read_of, inward_of, values_of, outward_of, plain_of, tick_of, view_of, reset_of};
 
 use lines::Line;
 
-#[derive(Drop)]
+#[derive(Clone, Copy)]
 pub enum Command {
     // A line that is no command.
     Bad,

@@ -1,5 +1,7 @@
 // The command that a line gives: the lines on raw sound RAM and marks. Of a field that was read
 // and passed its test, the remainder is the number itself.
+#![tactic(auto)]
+
 ghost use Rattle.std.specs.Prelude.{◌≡◌, ◌≤◌};
 ghost use Rattle.commands.specs.Command.{ranged as rangedOf, ram_of, marks_of, fill_of};
 

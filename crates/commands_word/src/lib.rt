@@ -1,4 +1,6 @@
 // The command that a line gives by its first field, for bench and for replay.
+#![tactic(auto)]
+
 ghost use Rattle.std.specs.Prelude.{◌≡◌};
 ghost use Rattle.commands.specs.Command.{word_of, bench_of, raw_of, run_of, data_of, replay_of};
 

@@ -1,5 +1,7 @@
 // Checks the sound of outside.bin, whose originals are an outside decoder's samples, then the sounds of cases.bin, which reference/encoder_edges.py
 // makes and answers. Writes a line for each: yes, 23, or no with the block and what it breaks.
+#![tactic(auto)]
+
 ghost use Rattle.std.specs.Prelude.{◌*◌, ◌≤◌, length};
 
 use encoder_check::{Fault, Verdict};

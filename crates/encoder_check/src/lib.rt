@@ -1,4 +1,6 @@
 // A check of encoders: the blocks that an ADPCM encoder made, against the samples that it made them of.
+#![tactic(auto)]
+
 ghost use Rattle.std.specs.Prelude.{◌≡◌, cond, not, ◌||◌, ◌+◌, ◌≤◌, ◌<◌, ltb, length, get_or, pos};
 ghost use Rattle.fixed.specs.Bits.{bit, field};
 ghost use Rattle.fixed.specs.Tests.{first_below};
@@ -8,7 +10,7 @@ ghost use Rattle.encoder_check.specs.Check.{blocks_of, groups_of, bytes_of, deco
 use adpcm::History;
 
 // The first block at fault, and what it breaks. The sample is the first that is too far from its original, 28 if none is.
-#[derive(Drop)]
+#[derive(Clone, Copy)]
 pub struct Fault {
     pub block: usize,
     pub unpaired: bool,
@@ -17,7 +19,7 @@ pub struct Fault {
     pub filter: bool,
 }
 
-#[derive(Drop)]
+#[derive(Clone, Copy)]
 pub enum Verdict {
     Yes,
     No(Fault),
@@ -157,7 +159,7 @@ pub fn check(originals: &[i16], encoded: &[u8], largest: u16) -> Verdict
 
 // A verdict as numbers and bools: zeros where it says nothing.
 #[repr(C)]
-#[derive(Drop)]
+#[derive(Clone, Copy)]
 pub struct Answer {
     pub number: u8,
     pub yes: bool,

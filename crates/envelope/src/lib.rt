@@ -1,10 +1,12 @@
 // The envelope generator: the level of one voice over time. Here are its rates, and how far and how often each moves the level.
+#![tactic(auto)]
+
 ghost use Rattle.std.specs.Prelude.{◌≡◌, cond, false, ◌-◌, ◌^◌, ◌<◌, pos};
 ghost use Rattle.fixed.specs.Range.{In};
 ghost use Rattle.envelope.specs.Adsr.{rise, fall, rate_of, cycles_of, step_of, clamped};
 
 // The first variant is the one of a fresh voice.
-#[derive(Drop)]
+#[derive(Clone, Copy)]
 pub enum Phase {
     Idle,
     Attack,
@@ -14,7 +16,7 @@ pub enum Phase {
     Off,
 }
 
-#[derive(Drop)]
+#[derive(Clone, Copy)]
 pub struct Envelope {
     pub phase: Phase,
     pub level: u16,
@@ -22,7 +24,7 @@ pub struct Envelope {
 }
 
 // How the level moves in a phase.
-#[derive(Drop)]
+#[derive(Clone, Copy)]
 pub struct Rate {
     pub shift: u32,
     pub value: i32,

@@ -1,4 +1,6 @@
 // One tick of an envelope, and its phases.
+#![tactic(auto)]
+
 ghost use Rattle.std.specs.Prelude.{◌≡◌, cond, ◌&&◌, ltb};
 ghost use Rattle.envelope.specs.Adsr.{sustain_level, active, entered_of, phase_after, moved_of, ticked_of};
 

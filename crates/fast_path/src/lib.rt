@@ -1,4 +1,6 @@
 // The fast path of a tick: a voice that stays in its block. What it gives and where it comes to, but for its envelope's step, read out of the buffer.
+#![tactic(auto)]
+
 ghost use Rattle.std.specs.Prelude.{◌≡◌, ◌+◌, ◌≤◌, ◌<◌, length};
 ghost use Rattle.gauss.specs.Gauss.{table as factors};
 ghost use Rattle.pitch.specs.Pitch.{moved_of};
@@ -12,7 +14,7 @@ use voice::Settings;
 
 // What a tick of a voice with its block loaded gives, beside its envelope's step: the place between samples, the sample that it
 // leads to, which may lie past the block's last, and the amplitude.
-#[derive(Drop)]
+#[derive(Clone, Copy)]
 pub struct Stayed {
     pub counter: u16,
     pub target: u32,

@@ -1,4 +1,6 @@
 // Gaussian interpolation between four consecutive samples.
+#![tactic(auto)]
+
 ghost use Rattle.std.specs.Prelude.{◌≡◌, ◌<◌};
 ghost use Rattle.fixed.specs.Range.{In};
 ghost use Rattle.gauss.specs.Gauss.{table as factors, factor_at, index_of, tap_of, interpolated_of};

@@ -1,4 +1,6 @@
 // The state in the buffer that a caller lends, 1,284 halfwords: where each part stands, read and put in place.
+#![tactic(auto)]
+
 ghost use Rattle.std.specs.Prelude.{◌≡◌, ◌+◌, ◌*◌, ◌/◌, ◌%◌, ◌≤◌, ◌<◌, pos, length, get_or, set, replicate};
 ghost use Rattle.fixed.specs.Signed.{signed};
 ghost use Rattle.registers.specs.Map.{register_at};

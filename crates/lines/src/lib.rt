@@ -1,11 +1,13 @@
 // What is kept of a line of text and of each field, and the tests of a field. A line may be of any length: what is kept is bounded.
+#![tactic(auto)]
+
 ghost use Rattle.std.specs.Prelude.{◌≡◌, ◌+◌, ◌*◌, ◌<◌, ◌≤◌, min};
 ghost use Rattle.lines.specs.Fields.{digit_of};
 ghost use Rattle.lines.specs.Line.{none_of, more_of, is_hex, is_count, fresh_of};
 
 // A field: its length, its bytes as one number, whether they are hex digits and their value, whether they are decimal digits and the
 // count. Each number is kept up to a limit.
-#[derive(Drop)]
+#[derive(Clone, Copy)]
 pub struct Field {
     pub length: u64,
     pub word: u64,
@@ -17,7 +19,7 @@ pub struct Field {
 
 // A line so far: whether it has a byte, whether the first is #, the field that runs, the first 34 that have ended, how many
 // have, up to 34, and whether all after the first are halfwords.
-#[derive(Drop)]
+#[derive(Clone, Copy)]
 pub struct Line {
     pub begun: bool,
     pub comment: bool,
@@ -28,7 +30,7 @@ pub struct Line {
 }
 
 // A line after a run of bytes, the index past the last of them, and whether that was the line's end.
-#[derive(Drop)]
+#[derive(Clone, Copy)]
 pub struct Scanned {
     pub line: Line,
     pub at: usize,

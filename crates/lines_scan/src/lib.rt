@@ -1,4 +1,6 @@
 // A line as it is read byte by byte, up to its end.
+#![tactic(auto)]
+
 ghost use Rattle.std.specs.Prelude.{◌≡◌, ◌+◌, min, drop, set};
 ghost use Rattle.lines.specs.Fields.{blank as blankAt};
 ghost use Rattle.lines.specs.Line.{joined_of, ended_of, begun_of, grown_of, feed_of, scan_of};

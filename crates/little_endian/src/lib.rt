@@ -1,4 +1,6 @@
 // Numbers of 16 and 32 bits in bytes, low byte first: read at a place, and written there.
+#![tactic(auto)]
+
 ghost use Rattle.std.specs.Prelude.{◌≡◌, ◌+◌, ◌≤◌, ◌<◌, length};
 ghost use Rattle.little_endian.specs.Bytes.{half_bytes, word_bytes, half_at, word_at, Put};
 

@@ -1,8 +1,10 @@
 // The noise generator: a 16-bit shift register with feedback, and the timer that clocks it.
+#![tactic(auto)]
+
 ghost use Rattle.std.specs.Prelude.{◌≡◌};
 ghost use Rattle.noise.specs.Noise.{parity_of, shifted_of, reload_of, ticked_of, written_of};
 
-#[derive(Drop)]
+#[derive(Clone, Copy)]
 pub struct Noise {
     pub level: u16,
     pub timer: u32,

@@ -1,9 +1,11 @@
 // The pitch counter: how fast a voice moves through its samples.
+#![tactic(auto)]
+
 ghost use Rattle.std.specs.Prelude.{◌≡◌};
 ghost use Rattle.pitch.specs.Pitch.{modulated_of, limited, step_of, moved_of};
 
 // The counter after a step, and the samples that it moved.
-#[derive(Drop)]
+#[derive(Clone, Copy)]
 pub struct Moved {
     pub counter: u16,
     pub moves: u32,

@@ -1,4 +1,6 @@
 // Whether the state in a lent buffer is in range, tested where it stands: one loop over the voices' arrays, which the compiler turns into tests of eight voices at a time.
+#![tactic(auto)]
+
 ghost use Rattle.std.specs.Prelude.{◌≡◌, true, ◌&&◌, ◌+◌, ◌*◌, length};
 ghost use Rattle.fixed.specs.Tests.{all_below};
 ghost use Rattle.soundram.specs.Address.{address_of};

@@ -1,5 +1,7 @@
 // Writes and reads back every offset from 0 to 3FFh, with four values one after the other, and writes a line for each: the offset, the number
 // of the write, the number of the read and the value read. The expected output is that of the reference, reference/readback.py.
+#![tactic(auto)]
+
 use libc::STDOUT_FILENO;
 
 fn print_number(n: u64, end: u8) {

@@ -1,4 +1,6 @@
 // Register reads that are not refused, from the buffer.
+#![tactic(auto)]
+
 ghost use Rattle.std.specs.Prelude.{◌≡◌, true, cond, ◌+◌, ◌^◌, ◌≤◌, ◌<◌, eqb, leb, length};
 ghost use Rattle.registers.specs.Offsets.{listed as listed_at};
 ghost use Rattle.chip.specs.Registers.{end_flags, status_of, doubled as doubledAt, read_of};

@@ -1,4 +1,6 @@
 // Register writes that are not refused, on the buffer.
+#![tactic(auto)]
+
 ghost use Rattle.std.specs.Prelude.{◌≡◌, true, false, ◌+◌, ◌≤◌, ◌<◌, length};
 ghost use Rattle.soundram.specs.Address.{Sized};
 ghost use Rattle.registers.specs.Map.{of_voice};

@@ -1,4 +1,6 @@
 // The registers as last written: 256 halfwords, the one at an offset from 1F801C00h; and which offsets and values calls take.
+#![tactic(auto)]
+
 ghost use Rattle.std.specs.Prelude.{◌≡◌, ◌<◌};
 ghost use Rattle.fixed.specs.Bits.{bit};
 ghost use Rattle.registers.specs.Map.{register_at, of_voice, flag_of, Flags};

@@ -1,4 +1,6 @@
 // The reverb: its part of sound RAM, read and written. A turn of one side is defined here too.
+#![tactic(auto)]
+
 ghost use Rattle.std.specs.Prelude.{◌≡◌, ◌%◌, ◌≤◌, ◌<◌, pos, ◌-ℤ◌};
 ghost use Rattle.soundram.specs.Address.{Lent};
 ghost use Rattle.soundram.specs.Program.{Does, mem_of};
@@ -7,7 +9,7 @@ ghost use Rattle.reverb.specs.Reverb.{address_at, AreaIn, side_of, who_of, fetch
 use soundram::{ByteAddress, Reader, Watch};
 
 // The reverb's part of sound RAM, from its base to the end, and the place in it that moves.
-#[derive(Drop)]
+#[derive(Clone, Copy)]
 pub struct Area {
     pub size: u32,
     pub base: u32,
@@ -15,7 +17,7 @@ pub struct Area {
 }
 
 // How a turn is made: of which side; whether its reads count; whether it writes.
-#[derive(Drop)]
+#[derive(Clone, Copy)]
 pub struct Turning {
     pub right: bool,
     pub counted: bool,
@@ -23,7 +25,7 @@ pub struct Turning {
 }
 
 // A halfword read, or a turn's output.
-#[derive(Drop)]
+#[derive(Clone, Copy)]
 pub struct Sample {
     pub value: i16,
     pub watch: Watch,

@@ -1,4 +1,6 @@
 // One turn of the reverb: reflections, combs, all-passes.
+#![tactic(auto)]
+
 ghost use Rattle.std.specs.Prelude.{◌≡◌, ◌+◌, ◌<◌, pos, ◌+ℤ◌, ◌-ℤ◌};
 ghost use Rattle.fixed.specs.Arithmetic.{saturated, product_of};
 ghost use Rattle.fixed.specs.Range.{In};
@@ -10,7 +12,7 @@ use reverb::{Area, Sample, Turning};
 use soundram::Watch;
 
 // A sum on its way through the turn.
-#[derive(Drop)]
+#[derive(Clone, Copy)]
 struct Sum {
     value: i32,
     watch: Watch,

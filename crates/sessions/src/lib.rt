@@ -1,4 +1,6 @@
 // The programs bench and replay: lines from standard input, answers to standard output.
+#![tactic(auto)]
+
 ghost use Rattle.std.specs.Prelude.{◌≡◌, ◌+◌, ◌≤◌, length, set};
 ghost use Rattle.sessions.specs.Fill.{filled_of};
 
@@ -7,7 +9,7 @@ use libc::{STDERR_FILENO, STDIN_FILENO, STDOUT_FILENO};
 use lines::Line;
 
 // The place in the output up to which answers wait, whether the output still takes bytes, and whether no read has failed.
-#[derive(Drop)]
+#[derive(Clone, Copy)]
 pub struct Session {
     pub bench: bool,
     pub place: usize,
@@ -16,7 +18,7 @@ pub struct Session {
 }
 
 // A line that is not ended yet, and the session before it.
-#[derive(Drop)]
+#[derive(Clone, Copy)]
 pub struct Reading {
     pub session: Session,
     pub line: Line,
@@ -24,7 +26,7 @@ pub struct Reading {
 }
 
 // The same, and how far a piece of the input is read.
-#[derive(Drop)]
+#[derive(Clone, Copy)]
 pub struct Taken {
     pub reading: Reading,
     pub at: usize,

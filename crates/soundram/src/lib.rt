@@ -1,17 +1,19 @@
 // Sound RAM: its addresses, and what its halfwords, its marks and every access to them are.
+#![tactic(auto)]
+
 ghost use Rattle.std.specs.Prelude.{◌≡◌, ◌≤◌, ◌<◌};
 ghost use Rattle.soundram.specs.Address.{address_of, unit_of, forward_of};
 
 // An address in units of 8 bytes, as registers hold it.
-#[derive(Drop)]
+#[derive(Clone, Copy)]
 pub struct UnitAddress(pub u16);
 
 // An address in bytes.
-#[derive(Drop)]
+#[derive(Clone, Copy)]
 pub struct ByteAddress(pub u32);
 
 // Who reads.
-#[derive(Drop)]
+#[derive(Clone, Copy)]
 pub enum Reader {
     Voice(u8),
     ReverbLeft,
@@ -20,7 +22,7 @@ pub enum Reader {
 }
 
 // What an access looks at and sets: the interrupt, armed or not, at a halfword; its latch; the doubt.
-#[derive(Drop)]
+#[derive(Clone, Copy)]
 pub struct Watch {
     pub armed: bool,
     pub halfword: u32,

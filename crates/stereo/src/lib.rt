@@ -1,8 +1,10 @@
 // A tick's pair of samples as 32-bit floats.
+#![tactic(auto)]
+
 ghost use Rattle.std.specs.Prelude.{◌≡◌};
 ghost use Rattle.stereo.specs.Float.{float_of, Exactly, stereo_of};
 
-#[derive(Drop)]
+#[derive(Clone, Copy)]
 pub struct Stereo {
     pub left: f32,
     pub right: f32,

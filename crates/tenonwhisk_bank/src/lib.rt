@@ -1,4 +1,6 @@
 // Calls for hosts on sound banks.
+#![tactic(auto)]
+
 ghost use Rattle.std.specs.Prelude.{◌≡◌};
 ghost use Rattle.bank.specs.Bank.{damage_of, fields_of, found_of};
 ghost use Rattle.bank_write.specs.Write.{lists, written_of};
@@ -9,7 +11,7 @@ use bank_write::Written;
 
 // The place is 0 for nowhere, 1 for the header, 2 for the entry.
 #[repr(C)]
-#[derive(Drop)]
+#[derive(Clone, Copy)]
 pub struct Checked {
     pub number: u8,
     pub place: u8,
@@ -17,7 +19,7 @@ pub struct Checked {
 }
 
 #[repr(C)]
-#[derive(Drop)]
+#[derive(Clone, Copy)]
 pub struct Listed {
     pub number: u8,
     pub kind: u16,

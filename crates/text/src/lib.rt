@@ -1,4 +1,6 @@
 // Text put into lent bytes at a place. Each function answers the next place.
+#![tactic(auto)]
+
 ghost use Rattle.std.specs.Prelude.{◌≡◌, [], ◌∷◌, ◌-◌, ◌<◌, ◌≤◌, ◌^◌};
 ghost use Rattle.text.specs.Text.{Prints, glyph_of, digits_of, hex_text, decimal_text, signed_text, flag_text};
 

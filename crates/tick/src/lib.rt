@@ -1,4 +1,6 @@
 // A tick of the whole chip, but for its voices: the mix, the capture, the reverb's turn, the pair, and the noise of the next tick.
+#![tactic(auto)]
+
 ghost use Rattle.std.specs.Prelude.{◌≡◌, ◌+◌, ◌*◌, ◌<◌, length, pos, ◌+ℤ◌, if◌then◌else◌, slice_index_or, slice_set};
 ghost use Rattle.fixed.specs.Range.{In};
 ghost use Rattle.fixed.specs.Arithmetic.{saturated};
@@ -19,14 +21,14 @@ use soundram::{ByteAddress, UnitAddress, Watch};
 use voices::Sums;
 
 // The pair that a tick gives.
-#[derive(Drop)]
+#[derive(Clone, Copy)]
 pub struct Pair {
     pub left: i16,
     pub right: i16,
 }
 
 // What a tick changes beside the voices.
-#[derive(Drop)]
+#[derive(Clone, Copy)]
 pub struct Rest {
     pub noise: Noise,
     pub applied: u16,
@@ -36,7 +38,7 @@ pub struct Rest {
 }
 
 // Where a run is: what this tick found, its noise, and what it watched from its start on; the ticks that reported.
-#[derive(Drop)]
+#[derive(Clone, Copy)]
 pub struct Going {
     pub rest: Rest,
     pub noise: Noise,
@@ -46,7 +48,7 @@ pub struct Going {
 }
 
 // The end of a tick.
-#[derive(Drop)]
+#[derive(Clone, Copy)]
 struct Closed {
     rest: Rest,
     pair: Pair,
@@ -54,7 +56,7 @@ struct Closed {
 }
 
 // The reverb after its turn.
-#[derive(Drop)]
+#[derive(Clone, Copy)]
 struct Turned {
     reverb: Reverb,
     watch: Watch,

@@ -1,4 +1,6 @@
 // A run of ticks, on the buffer: the voices change in place, and what else a tick changes stays in locals from the first tick to the last.
+#![tactic(auto)]
+
 ghost use Rattle.std.specs.Prelude.{◌≡◌, ◌%◌, ◌<◌};
 ghost use Rattle.gauss.specs.Gauss.{table as factors};
 ghost use Rattle.soundram.specs.Address.{Lent};
@@ -20,14 +22,14 @@ use tick::{Going, Rest};
 use voice::{Position, Voice};
 
 // The amplitudes of all voices.
-#[derive(Drop)]
+#[derive(Clone, Copy)]
 struct AllPlayed {
     amplitudes: [i16; 24],
     watch: Watch,
 }
 
 // Which tick raised the interrupt and which the doubt; the number of ticks if none did.
-#[derive(Drop)]
+#[derive(Clone, Copy)]
 pub struct Reports {
     pub irq: usize,
     pub doubt: usize,

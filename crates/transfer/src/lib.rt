@@ -1,4 +1,6 @@
 // Transfers: halfwords moved at the transfer address.
+#![tactic(auto)]
+
 ghost use Rattle.std.specs.Prelude.{◌≡◌, ◌+◌, ◌-◌, ◌*◌, ◌%◌, ◌^◌, ◌≤◌, ◌<◌, length};
 ghost use Rattle.soundram.specs.Address.{Lent};
 ghost use Rattle.soundram.specs.Program.{Does, mem_of};
@@ -8,7 +10,7 @@ ghost use Rattle.transfer.specs.Whole.{stored_of, marked_from, copied_of, all_ma
 use soundram::{ByteAddress, Reader, Watch};
 
 // The address after the halfwords moved so far.
-#[derive(Drop)]
+#[derive(Clone, Copy)]
 pub struct Moved {
     pub address: ByteAddress,
     pub watch: Watch,

@@ -1,4 +1,6 @@
 // One voice: its block, its place in it, its envelope; key on and off. What it does in a tick is defined here too.
+#![tactic(auto)]
+
 ghost use Rattle.std.specs.Prelude.{◌≡◌, ◌<◌};
 ghost use Rattle.voice.specs.Voice.{fresh as freshVoice, keyed_on, keyed_off, is_idle, goes_off};
 
@@ -6,28 +8,28 @@ use envelope::{Envelope, Phase};
 use soundram::{ByteAddress, UnitAddress};
 
 // Where a voice plays: the block that it plays or will load next, and the unit that it goes to at a block with the end flag.
-#[derive(Drop)]
+#[derive(Clone, Copy)]
 pub struct Source {
     pub address: ByteAddress,
     pub repeat: UnitAddress,
 }
 
 // The place between samples, and the sample within the block.
-#[derive(Drop)]
+#[derive(Clone, Copy)]
 pub struct Position {
     pub counter: u16,
     pub index: u8,
 }
 
 // The block that plays: its loop flags, the three samples before it and its 28.
-#[derive(Drop)]
+#[derive(Clone, Copy)]
 pub struct Playing {
     pub loaded: bool,
     pub flags: u8,
     pub samples: [i16; 31],
 }
 
-#[derive(Drop)]
+#[derive(Clone, Copy)]
 pub struct Voice {
     pub envelope: Envelope,
     pub source: Source,
@@ -37,7 +39,7 @@ pub struct Voice {
 }
 
 // What the registers say of a voice.
-#[derive(Drop)]
+#[derive(Clone, Copy)]
 pub struct Settings {
     pub pitch: u16,
     pub low: u16,

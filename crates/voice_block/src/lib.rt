@@ -1,4 +1,6 @@
 // A voice's block: loaded and decoded, and left by the end rule.
+#![tactic(auto)]
+
 ghost use Rattle.std.specs.Prelude.{◌≡◌, ◌++◌, ◌≤◌, ◌<◌, drop};
 ghost use Rattle.soundram.specs.Address.{Lent};
 ghost use Rattle.soundram.specs.Program.{Does, mem_of};
@@ -9,7 +11,7 @@ use soundram::{Reader, Watch};
 use voice::{Playing, Source, Voice};
 
 // A voice after a load, or none.
-#[derive(Drop)]
+#[derive(Clone, Copy)]
 pub struct Loaded {
     pub voice: Voice,
     pub watch: Watch,

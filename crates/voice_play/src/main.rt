@@ -1,5 +1,7 @@
 // Plays blocks through one voice and writes, for each tick, its amplitude, level, end flag and the doubt. The expected output is that of the
 // reference, reference/voice_play.py, which lists the same blocks and plays.
+#![tactic(auto)]
+
 ghost use Rattle.std.specs.Prelude.{◌≡◌, ◌<◌};
 ghost use Rattle.gauss.specs.Gauss.{table as factors};
 ghost use Rattle.soundram.specs.Address.{Lent};
@@ -41,7 +43,7 @@ const HIGHS: [u16; 14] = [0, 0x5FC0, 0, 0, 0, 0, 0, 0, 0, 0, 0xC1E5, 0x0021, 0, 
 const TICKS: [u32; 14] = [70, 120, 40, 8, 40, 40, 20, 60, 60, 20, 90, 60, 40, 60];
 
 // A voice between two ticks, and what its reads noticed.
-#[derive(Drop)]
+#[derive(Clone, Copy)]
 struct Played {
     voice: Voice,
     watch: Watch,

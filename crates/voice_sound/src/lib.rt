@@ -1,4 +1,6 @@
 // What a voice gives in a tick.
+#![tactic(auto)]
+
 ghost use Rattle.std.specs.Prelude.{◌≡◌, ◌≤◌, pos};
 ghost use Rattle.fixed.specs.Arithmetic.{product_of};
 ghost use Rattle.gauss.specs.Gauss.{table as factors};

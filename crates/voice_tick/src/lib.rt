@@ -1,4 +1,6 @@
 // One tick of a voice.
+#![tactic(auto)]
+
 ghost use Rattle.std.specs.Prelude.{◌≡◌, ◌≤◌, ◌<◌};
 ghost use Rattle.gauss.specs.Gauss.{table as factors};
 ghost use Rattle.soundram.specs.Address.{Lent};
@@ -11,7 +13,7 @@ use voice::{Position, Settings, Voice};
 use voice_block::Loaded;
 
 // What a tick of a voice gives.
-#[derive(Drop)]
+#[derive(Clone, Copy)]
 pub struct VoiceTick {
     pub voice: Voice,
     pub amplitude: i16,
@@ -19,7 +21,7 @@ pub struct VoiceTick {
 }
 
 // A voice after its steps, and the sample that they lead to, which may lie past the block's last.
-#[derive(Drop)]
+#[derive(Clone, Copy)]
 struct Stepped {
     voice: Voice,
     target: u32,

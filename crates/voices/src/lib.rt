@@ -1,4 +1,6 @@
 // What the registers say of each voice, and what all 24 give to the rest of a tick.
+#![tactic(auto)]
+
 ghost use Rattle.std.specs.Prelude.{◌≡◌, ◌<◌};
 ghost use Rattle.registers.specs.Map.{Flags};
 ghost use Rattle.voices.specs.Voices.{flagged_of, settings_of, Modulated};
@@ -6,14 +8,14 @@ ghost use Rattle.voices.specs.Voices.{flagged_of, settings_of, Modulated};
 use voice::Settings;
 
 // A sum, or a share of one, for each side.
-#[derive(Drop)]
+#[derive(Clone, Copy)]
 pub struct Sides {
     pub left: i32,
     pub right: i32,
 }
 
 // The amplitudes of voices 1 and 3.
-#[derive(Drop)]
+#[derive(Clone, Copy)]
 pub struct Captured {
     pub first: i16,
     pub third: i16,
@@ -21,7 +23,7 @@ pub struct Captured {
 
 // What the voices give to the rest of a tick: the sums of all and of those with reverb, the amplitude of the voice before, and those that
 // are captured.
-#[derive(Drop)]
+#[derive(Clone, Copy)]
 pub struct Sums {
     pub dry: Sides,
     pub wet: Sides,

@@ -1,4 +1,6 @@
 // XA speech: the samples of a sector of CD-ROM XA ADPCM.
+#![tactic(auto)]
+
 ghost use Rattle.std.specs.Prelude.{◌≡◌, true, false, ◌+◌, ◌*◌, ◌≤◌, ◌<◌, length};
 ghost use Rattle.adpcm.specs.Adpcm.{after_of};
 ghost use Rattle.xa.specs.Xa.{is_group_copied, are_copied, header_byte, header_of, nibble_of, unit_of, channel_of, placed_of, fresh_of, number_of, accepted_of, decoded_of};
@@ -6,7 +8,7 @@ ghost use Rattle.xa.specs.Xa.{is_group_copied, are_copied, header_byte, header_o
 use adpcm::{Header, History};
 
 #[repr(C)]
-#[derive(Drop)]
+#[derive(Clone, Copy)]
 pub struct Histories {
     pub left: History,
     pub right: History,
@@ -15,7 +17,7 @@ pub struct Histories {
 
 // What a call answers. The histories are those that were handed in if it is refused.
 #[repr(C)]
-#[derive(Drop)]
+#[derive(Clone, Copy)]
 pub struct Decoded {
     pub number: u8,
     pub histories: Histories,

@@ -1,5 +1,7 @@
 // Decodes the twelve sectors of xa.xa and writes a line that says stereo or mono, then the samples, a sound group a line. Here the expected
 // output is an outside decoder's. Then answers the cases of edges.xa, which reference/xa_edges.py makes and answers.
+#![tactic(auto)]
+
 use libc::STDOUT_FILENO;
 use xa::Histories;
 
