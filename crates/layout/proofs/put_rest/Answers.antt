@@ -8,17 +8,13 @@ use Rattle.layout.proofs.Tail.{rest_holds}
 use borrow.Author.Rules.{rules}
 use Rattle.layout.proofs.put_rest.Goals as goal
 
-left-fits : (c : goal.Start) → SFits w16 c.args.reverb.held.left
-left-fits c = search rules
-
-right-fits : (c : goal.Start) → SFits w16 c.args.reverb.held.right
-right-fits c = search rules
-
 pub put_tail-requires : goal.put_tail-requires
 put_tail-requires c = c.requires.0.size
 
 pub returns : goal.returns
 returns c =
-    rest_holds _ c.requires.0 c.args.noise c.args.control c.args.capture c.args.reverb c.args.tick c.requires.1 c.requires.2 (arg (left-fits c.before.before.before.before.before.before.before.before.before.before.before.before.before.before.before.before.before.before.before.before.before)).within (arg (right-fits c.before.before.before.before.before.before.before.before.before.before.before.before.before.before.before.before.before.before.before.before.before)).within
+    let left : SFits w16 c.args.reverb.held.left = search rules in
+    let right : SFits w16 c.args.reverb.held.right = search rules in
+    rest_holds _ c.requires.0 c.args.noise c.args.control c.args.capture c.args.reverb c.args.tick c.requires.1 c.requires.2 (arg left).within (arg right).within
     c.low.ensures c.high.ensures c.low-2.ensures c.high-2.ensures
-    (c.to_bits.ensures ∙ ap (bits_of 16) (to_z-of_z (left-fits c.before.before.before.before.before.before.before.before.before.before.before.before.before.before.before.before.before.before.before.before.before))) (c.to_bits-2.ensures ∙ ap (bits_of 16) (to_z-of_z (right-fits c.before.before.before.before.before.before.before.before.before.before.before.before.before.before.before.before.before.before.before.before.before))) c.low-3.ensures c.high-3.ensures c.put_tail.ensures
+    (c.to_bits.ensures ∙ ap (bits_of 16) (to_z-of_z left)) (c.to_bits-2.ensures ∙ ap (bits_of 16) (to_z-of_z right)) c.low-3.ensures c.high-3.ensures c.put_tail.ensures

@@ -17,7 +17,7 @@ loop-k-init c = (search rules, search rules, words_none _ _ _ _, below_none _)
 pub loop-k-preserved : goal.loop-k-preserved
 loop-k-preserved c =
     let v = c.loop-k.invariant in
-    let xs = c.args.t3 in
+    let xs = c.args.samples in
     let f : SFits w16 (get_or xs c.loop-k.k (pos 0)) = search (rules, c.to_bits-arg-1.given) in
     (search rules, search rules, words_more _ _ _ _ _ _ _ v.2 (high_place _ _) (sample_word_lem xs c.loop-k.k c.to_bits.ensures (to_z-of_z f)), below_more _ _ v.3 (arg f).within)
 

@@ -6,9 +6,6 @@ use Rattle.layout.proofs.Put.{voice_holds}
 use borrow.Author.Rules.{rules}
 use Rattle.layout.proofs.put_voice.Goals as goal
 
-flags : (c : goal.Start) → c.args.v.playing.flags ≤ 0xFF
-flags c = search rules
-
 pub put_words-requires : goal.put_words-requires
 put_words-requires c = (c.requires.0, c.requires.1.size)
 
@@ -18,4 +15,5 @@ put_samples-requires c =
 
 pub returns : goal.returns
 returns c =
-    voice_holds _ _ c.args.v c.requires.0 c.requires.1 c.requires.2 (flags c.before.before.before.before.before.before.before.before.before.before.before.before.before.before.before.before.before.before.before.before.before) c.phase_number-p.ensures c.low.ensures c.high.ensures c.unit.ensures c.put_words.ensures c.put_samples.ensures.0 c.put_samples.ensures.1
+    let flags : c.args.v.playing.flags ≤ 0xFF = search rules in
+    voice_holds _ _ c.args.v c.requires.0 c.requires.1 c.requires.2 flags c.phase_number-p.ensures c.low.ensures c.high.ensures c.unit.ensures c.put_words.ensures c.put_samples.ensures.0 c.put_samples.ensures.1
