@@ -1,7 +1,7 @@
 use borrow.Author.Rules.{rules}
-use mathlib.Core.Path.{refl, sym, ◌∙◌}
+use mathlib.Core.Path.{refl, sym, ap, ◌∙◌}
+use mathlib.Core.Bool.{not}
 use Prim.Native.Nat.{◌-◌}
-use mathlib.Core.Logic.{⊎_elim}
 use Rattle.pitch.proofs.Laws.{moved_counter}
 use Rattle.soundram.specs.declared.Reader.{Reader}
 use Rattle.soundram.specs.Program.{mem_of}
@@ -10,6 +10,7 @@ use Rattle.layout.specs.Layout.{voice_in}
 use Rattle.tick_runs.specs.Run.{Becomes}
 use Rattle.tick_runs.proofs.Voices.{ready_has, ready_none, ready_in_range, steps_stay, play_plays, idle_plays, played_none, played_in, played_more, played_all}
 use Rattle.tick_runs.proofs.play_all.Goals as goal
+use Rattle.tick_runs.proofs.play_all.Goals.{then-not-loaded, else-not-loaded}
 
 pub loop-n-init : goal.loop-n-init
 loop-n-init c =
@@ -40,23 +41,20 @@ load-seen-requires c =
     let r = played_in p h in
     (h, p.holds.formed, rw v r.multiple, rw v r.below, z.6)
 
--- the voice has a block, whichever way it came
-readied : (c : goal.Joined-not-loaded)
-    → let z = c.args in
-    let l = c.loop-n in
-    Becomes l.n (ready_of (Reader.Voice l.n) z.size (voice_in l.state l.n)) l.state (mem_of z.ram.now z.marks.now l.watch) c.if-not-loaded.state
-    (mem_of z.ram.now z.marks.now c.if-not-loaded.watch)
-readied c =
-    let p = c.loop-n.invariant.1 in
-    let l = c.loaded.ensures in
-    ⊎_elim (λ w. rw (w.7, w.8) (ready_none _ _ _ l w.0.taken w.2.ensures w.4.ensures)) (λ w. rw (w.1, w.2) (ready_has _ _ _ _ p.holds.formed l w.0.left)) c.if-not-loaded.branch
-
 pub stay-m-requires : goal.stay-m-requires
 stay-m-requires c =
     let z = c.requires in
     let p = c.loop-n.invariant.1 in
     let h = c.loop-n-test.true in
-    let b = readied c.before.before in
+    let g = c.loaded.ensures in
+    -- the voice has a block, whichever way it came
+    let b : Becomes c.loop-n.n (ready_of (Reader.Voice c.loop-n.n) c.args.size (voice_in c.loop-n.state c.loop-n.n)) c.loop-n.state
+            (mem_of c.args.ram.now c.args.marks.now c.loop-n.watch) c.if-not-loaded.state (mem_of c.args.ram.now c.args.marks.now c.if-not-loaded.watch) =
+        elim c.if-not-loaded.branch [
+          | then-not-loaded w ↦ rw (w.state-is, w.watch-is) (ready_none _ _ _ g (ap not w.if-not-loaded.true) w.voice-v.ensures w.load-seen.ensures)
+          | else-not-loaded w ↦ rw (w.state-is, w.watch-is) (ready_has _ _ _ _ p.holds.formed g (ap not w.if-not-loaded.false))
+        ]
+    in
     let r = ready_in_range _ _ _ h b (played_in p h) in
     (z.0, h, z.1, z.2, z.3.each _ h, b.holds.formed.size, r.counter, r.index, r.envelope.level)
 
@@ -65,7 +63,15 @@ pass_end-seen-requires c =
     let z = c.requires in
     let p = c.loop-n.invariant.1 in
     let h = c.loop-n-test.true in
-    let b = readied c.before.before.before.before.before.before.before in
+    let g = c.loaded.ensures in
+    -- the voice has a block, whichever way it came
+    let b : Becomes c.loop-n.n (ready_of (Reader.Voice c.loop-n.n) c.args.size (voice_in c.loop-n.state c.loop-n.n)) c.loop-n.state
+            (mem_of c.args.ram.now c.args.marks.now c.loop-n.watch) c.if-not-loaded.state (mem_of c.args.ram.now c.args.marks.now c.if-not-loaded.watch) =
+        elim c.if-not-loaded.branch [
+          | then-not-loaded w ↦ rw (w.state-is, w.watch-is) (ready_none _ _ _ g (ap not w.if-not-loaded.true) w.voice-v.ensures w.load-seen.ensures)
+          | else-not-loaded w ↦ rw (w.state-is, w.watch-is) (ready_has _ _ _ _ p.holds.formed g (ap not w.if-not-loaded.false))
+        ]
+    in
     let m = c.stay-m.ensures in
     let t = c.if-m-gt27.true in
     (h, z.1, z.2, b.holds.formed, ready_in_range _ _ _ h b (played_in p h), rw m.0 (moved_counter _ _), t, m.2, z.6)
@@ -87,7 +93,15 @@ loop-n-preserved-then-m-gt27 c =
     let h = c.loop-n-test.true in
     let i = c.is_idle.ensures in
     let f = c.if-is_idle.false in
-    let b = readied c.before.before.before.before.before.before.before.before.before.before in
+    let g = c.loaded.ensures in
+    -- the voice has a block, whichever way it came
+    let b : Becomes c.loop-n.n (ready_of (Reader.Voice c.loop-n.n) c.args.size (voice_in c.loop-n.state c.loop-n.n)) c.loop-n.state
+            (mem_of c.args.ram.now c.args.marks.now c.loop-n.watch) c.if-not-loaded.state (mem_of c.args.ram.now c.args.marks.now c.if-not-loaded.watch) =
+        elim c.if-not-loaded.branch [
+          | then-not-loaded w ↦ rw (w.state-is, w.watch-is) (ready_none _ _ _ g (ap not w.if-not-loaded.true) w.voice-v.ensures w.load-seen.ensures)
+          | else-not-loaded w ↦ rw (w.state-is, w.watch-is) (ready_has _ _ _ _ p.holds.formed g (ap not w.if-not-loaded.false))
+        ]
+    in
     let m = c.stay-m.ensures in
     let e = c.pass_end-seen.ensures in
     let x = c.struct_told-1.given in
@@ -95,8 +109,17 @@ loop-n-preserved-then-m-gt27 c =
 
 pub put_position-requires : goal.put_position-requires
 put_position-requires c =
+    let p = c.loop-n.invariant.1 in
     let h = c.loop-n-test.true in
-    let b = readied c.before.before.before.before.before.before.before.before in
+    let g = c.loaded.ensures in
+    -- the voice has a block, whichever way it came
+    let b : Becomes c.loop-n.n (ready_of (Reader.Voice c.loop-n.n) c.args.size (voice_in c.loop-n.state c.loop-n.n)) c.loop-n.state
+            (mem_of c.args.ram.now c.args.marks.now c.loop-n.watch) c.if-not-loaded.state (mem_of c.args.ram.now c.args.marks.now c.if-not-loaded.watch) =
+        elim c.if-not-loaded.branch [
+          | then-not-loaded w ↦ rw (w.state-is, w.watch-is) (ready_none _ _ _ g (ap not w.if-not-loaded.true) w.voice-v.ensures w.load-seen.ensures)
+          | else-not-loaded w ↦ rw (w.state-is, w.watch-is) (ready_has _ _ _ _ p.holds.formed g (ap not w.if-not-loaded.false))
+        ]
+    in
     (h, b.holds.formed)
 
 pub step_envelope-requires : goal.step_envelope-requires
@@ -123,7 +146,15 @@ loop-n-preserved c =
     let h = c.loop-n-test.true in
     let i = c.is_idle.ensures in
     let f = c.if-is_idle.false in
-    let b = readied c.before.before.before.before.before.before.before.before.before.before.before.before.before.before.before in
+    let g = c.loaded.ensures in
+    -- the voice has a block, whichever way it came
+    let b : Becomes c.loop-n.n (ready_of (Reader.Voice c.loop-n.n) c.args.size (voice_in c.loop-n.state c.loop-n.n)) c.loop-n.state
+            (mem_of c.args.ram.now c.args.marks.now c.loop-n.watch) c.if-not-loaded.state (mem_of c.args.ram.now c.args.marks.now c.if-not-loaded.watch) =
+        elim c.if-not-loaded.branch [
+          | then-not-loaded w ↦ rw (w.state-is, w.watch-is) (ready_none _ _ _ g (ap not w.if-not-loaded.true) w.voice-v.ensures w.load-seen.ensures)
+          | else-not-loaded w ↦ rw (w.state-is, w.watch-is) (ready_has _ _ _ _ p.holds.formed g (ap not w.if-not-loaded.false))
+        ]
+    in
     let m = c.stay-m.ensures in
     let t = c.if-m-gt27.false in
     let q = c.put_position.ensures in
