@@ -1,6 +1,5 @@
 use Rattle.answers_memory.proofs.Laws.{bytes_all, bytes_more, bytes_none}
 use borrow.Author.Rules.{rules}
-use Prim.Native.Nat.{◌-◌}
 use Rattle.answers_memory.proofs.bytes.Goals as goal
 
 pub loop-k-init : goal.loop-k-init

@@ -1,6 +1,5 @@
 use Rattle.answers_memory.proofs.Laws.{halfwords_all, halfwords_more, halfwords_none}
 use borrow.Author.Rules.{rules}
-use Prim.Native.Nat.{◌-◌}
 use Rattle.answers_memory.proofs.halfwords.Goals as goal
 
 pub loop-i-init : goal.loop-i-init

@@ -1,6 +1,5 @@
 use Rattle.answers_memory.proofs.Laws.{marks_all, marks_more, marks_none}
 use borrow.Author.Rules.{rules}
-use Prim.Native.Nat.{◌-◌}
 use Rattle.answers_memory.proofs.marks_from.Goals as goal
 
 pub loop-k-init : goal.loop-k-init

@@ -1,6 +1,5 @@
 use Rattle.commands.proofs.Laws.{values_none, values_more, values_all}
 use borrow.Author.Rules.{rules}
-use Prim.Native.Nat.{◌-◌}
 use Rattle.commands.proofs.values.Goals as goal
 
 pub loop-n-init : goal.loop-n-init

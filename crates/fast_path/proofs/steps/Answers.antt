@@ -1,5 +1,4 @@
 use mathlib.Core.Path.{refl}
-use Prim.Native.Nat.{◌-◌}
 use native.Mathlib.Omega.{arith}
 use Rattle.fast_path.proofs.Stays.{stepping_none, stepping_more, stepping_end}
 use Rattle.fast_path.proofs.steps.Goals as goal

@@ -1,6 +1,5 @@
 use borrow.Author.Rules.{rules}
 use mathlib.Core.Path.{refl}
-use Prim.Native.Nat.{◌-◌}
 use Rattle.layout.proofs.Read.{filled_none, filled_more}
 use Rattle.layout.proofs.Made.{none, cleared}
 use Rattle.layout.proofs.clear.Goals as goal

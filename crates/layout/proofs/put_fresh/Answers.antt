@@ -1,5 +1,4 @@
 use borrow.Author.Rules.{rules}
-use Prim.Native.Nat.{◌-◌}
 use Rattle.layout.proofs.Made.{fresh_none, fresh_more, fresh_end, fresh_aligned}
 use Rattle.layout.proofs.put_fresh.Goals as goal
 

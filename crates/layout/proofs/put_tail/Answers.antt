@@ -1,5 +1,4 @@
 use borrow.Author.Rules.{rules}
-use Prim.Native.Nat.{◌-◌}
 use lib.ListN.{get_or}
 use Rattle.layout.proofs.Tail.{tail_none, tail_more, tail_end}
 use Rattle.layout.proofs.put_tail.Goals as goal

@@ -1,5 +1,4 @@
 use borrow.Author.Rules.{rules}
-use Prim.Native.Nat.{◌-◌}
 use lib.ListN.{get_or}
 use Rattle.layout.proofs.Put.{words_none, words_more, words_end, from_place, from_zero}
 use Rattle.layout.proofs.put_words.Goals as goal

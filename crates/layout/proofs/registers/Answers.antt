@@ -1,6 +1,5 @@
 use borrow.Author.Rules.{rules}
 use mathlib.Core.Path.{refl}
-use Prim.Native.Nat.{◌-◌}
 use Rattle.layout.proofs.Read.{filled_none, filled_more, filled_all, registers_are}
 use Rattle.layout.proofs.registers.Goals as goal
 

@@ -1,5 +1,4 @@
 use borrow.Author.Rules.{rules}
-use Prim.Native.Nat.{◌-◌}
 use mir.Syntax.{w16}
 use Rattle.fixed.proofs.Number.{passed}
 use Rattle.layout.proofs.Read.{filled_none, filled_more, filled_all}

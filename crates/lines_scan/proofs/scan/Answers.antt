@@ -1,7 +1,6 @@
 use Rattle.lines_scan.proofs.Laws.{scan_more, scan_end, scan_out}
 use borrow.Author.Rules.{rules}
 use mathlib.Core.Path.{refl}
-use Prim.Native.Nat.{◌-◌}
 use Rattle.lines_scan.proofs.scan.Goals as goal
 
 pub loop-i-init : goal.loop-i-init

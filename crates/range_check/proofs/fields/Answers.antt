@@ -1,6 +1,5 @@
 use borrow.Author.Rules.{rules}
 use mathlib.Core.Path.{refl}
-use Prim.Native.Nat.{◌-◌}
 use Rattle.fixed.proofs.Bools.{all_none, all_more, all_tested}
 use Rattle.range_check.proofs.fields.Goals as goal
 

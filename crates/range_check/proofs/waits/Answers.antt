@@ -1,5 +1,4 @@
 use borrow.Author.Rules.{rules}
-use Prim.Native.Nat.{◌-◌}
 use Rattle.fixed.proofs.Bools.{all_none, all_more, all_tested}
 use Rattle.range_check.proofs.Tests.{wait_tested}
 use Rattle.range_check.proofs.waits.Goals as goal

@@ -1,4 +1,3 @@
-use Prim.Native.Nat.{◌-◌}
 use native.Mathlib.Omega.{arith}
 use Rattle.soundram.proofs.Programs.{lent_after, repeat_none, repeat_more, repeat_end}
 use Rattle.reverb.proofs.Turns.{two_offsets, passes_does}
