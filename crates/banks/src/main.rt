@@ -6,10 +6,9 @@ ghost use Rattle.std.specs.Prelude.{◌≡◌, ◌≤◌, length};
 ghost use Rattle.std.specs.Io.{ReadsAtMost};
 
 use bank::Damage;
-use std::fs;
-use std::io;
 use std::io::Read;
 use std::rt::Files;
+use std::{fs, io};
 
 const ROOM: usize = 512;
 
@@ -97,12 +96,7 @@ fn print_found(rt: &impl Print, title: &[u8], house: &[u8], n: u32) -> io::Resul
     print_number(rt, found.length as u64, b'\n')
 }
 
-fn print_sound<'a>(
-    rt: &impl Print,
-    title: &'a [u8],
-    house: &'a [u8],
-    n: u32,
-) -> io::Result<()> {
+fn print_sound<'a>(rt: &impl Print, title: &'a [u8], house: &'a [u8], n: u32) -> io::Result<()> {
     print_found(rt, title, house, n)?;
     let sound = bank::lookup(title, house, n);
     print_text(rt, b"lookup ")?;

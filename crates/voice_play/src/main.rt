@@ -209,7 +209,13 @@ fn tick(
     let r = voice_tick::tick(table, v, 0, SIZE, s, below(t), noise(t), ram, marks, w);
     let voice = r.voice;
     let watch = r.watch;
-    print_tick(rt, r.amplitude, voice.envelope.level, voice.ended, watch.doubt)?;
+    print_tick(
+        rt,
+        r.amplitude,
+        voice.envelope.level,
+        voice.ended,
+        watch.doubt,
+    )?;
     Ok(Played { voice, watch })
 }
 
@@ -227,16 +233,19 @@ fn turn(
     ensures { IfOk result (λ q. InRange 0x10000 q.voice) }
 {
     let s = settings(k);
-    tick(rt, table, keyed(p.voice, s, k, t), p.watch, s, t, ram, marks)
+    tick(
+        rt,
+        table,
+        keyed(p.voice, s, k, t),
+        p.watch,
+        s,
+        t,
+        ram,
+        marks,
+    )
 }
 
-fn play(
-    rt: &impl Print,
-    table: &[i16; 512],
-    ram: &[u8],
-    marks: &[u8],
-    k: usize,
-) -> io::Result<()>
+fn play(rt: &impl Print, table: &[i16; 512], ram: &[u8], marks: &[u8], k: usize) -> io::Result<()>
     requires { (table.now ≡ factors) × Lent 0x10000 ram.now marks.now × (k < 14) }
 {
     print_name(rt, k)?;
