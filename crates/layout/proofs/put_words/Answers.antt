@@ -1,0 +1,14 @@
+use borrow.Author.Rules.{rules}
+use Prim.Native.Nat.{◌-◌}
+use lib.ListN.{get_or}
+use Rattle.layout.proofs.Put.{words_none, words_more, words_end, from_place, from_zero}
+use Rattle.layout.proofs.put_words.Goals as goal
+
+pub loop-w-init : goal.loop-w-init
+loop-w-init c = (search rules, search rules, words_none _ _ _ _)
+
+pub loop-w-preserved : goal.loop-w-preserved
+loop-w-preserved c = (search rules, search rules, words_more _ _ _ _ _ _ _ c.loop-w.invariant.2 (from_place _ _ c.place.ensures.0) (from_zero (λ u. get_or c.args.words.now u 0) _))
+
+pub returns : goal.returns
+returns c = let v = c.loop-w.invariant in words_end _ _ _ _ _ _ v.2 v.0 c.loop-w-test.false
