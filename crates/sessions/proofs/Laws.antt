@@ -1,5 +1,7 @@
--- Laws of raw fills. Assumes nothing.
-use Rattle.std.proofs.Common.{◌≡◌, refl, List, ℕ, ◌+◌, ◌≤◌, set}
+-- Laws of raw fills, and of zeros. Assumes nothing.
+use Rattle.std.proofs.Common.{◌≡◌, refl, sym, List, ℕ, ◌+◌, ◌≤◌, length, set}
+use Rattle.std.proofs.Math.ListN.{replicate}
+use Rattle.std.proofs.lemmas.List.{length-replicate}
 use native.Mathlib.Numerals.{add-one}
 use native.Mathlib.Omega.{arith}
 use Rattle.sessions.specs.Fill.{filled_of}
@@ -14,3 +16,6 @@ filled_more xs from b k e f = rw (f, e, add-one)
 
 pub filled_all : (xs : List ℕ) (from b n k : ℕ) {ys : List ℕ} → k ≤ n → n ≤ k → ys ≡ filled_of xs from b k → ys ≡ filled_of xs from b n
 filled_all xs from b n k h l e = let p : k ≡ n = omega arith in rw p at e
+
+pub zeros_length : (n : ℕ) → n ≡ length {A = ℕ} (replicate n 0)
+zeros_length n = sym (length-replicate n 0)
