@@ -1,4 +1,3 @@
-use Prim.Native.Nat.{◌-◌}
 use borrow.Author.Rules.{rules}
 use Rattle.little_endian.proofs.Puts.{put_none}
 use Rattle.bank_write.proofs.Bytes.{data_more, data_end}

@@ -1,4 +1,3 @@
-use Prim.Native.Nat.{◌-◌}
 use borrow.Author.Rules.{rules}
 use Rattle.little_endian.proofs.Puts.{each_none, each_more, each_end}
 use Rattle.bank_write.proofs.Bytes.{entry_length}

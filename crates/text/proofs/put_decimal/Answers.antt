@@ -1,6 +1,5 @@
 use Rattle.text.proofs.Numbers.{power_of, power_positive, power_next, idle_more, decimal_all, decimal_power, trim_more, decimal_prints}
 use borrow.Author.Rules.{rules}
-use Prim.Native.Nat.{◌-◌}
 use Rattle.text.proofs.put_decimal.Goals as goal
 
 pub loop-k-init : goal.loop-k-init

@@ -1,7 +1,7 @@
 use Rattle.text.proofs.Numbers.{power_at}
 use Rattle.text.specs.Text.{digits_of, trimmed, decimal_text}
 use mathlib.Core.Path.{◌≡◌}
-use Prim.Native.Nat.{◌<◌, ◌-◌}
+use Prim.Native.Nat.{◌<◌}
 use Rattle.text.proofs.put_decimal.Given as goal
 
 abbrev pub invariant-loop-k : goal.invariant-loop-k

@@ -1,7 +1,6 @@
 use Rattle.text.proofs.Numbers.{power_first, power_positive, power_next, digits_more, digits_none, glyph_small}
 use Rattle.text.proofs.Laws.{left_all}
 use borrow.Author.Rules.{rules}
-use Prim.Native.Nat.{◌-◌}
 use Rattle.text.proofs.put_digits.Goals as goal
 
 pub loop-left-init : goal.loop-left-init

@@ -3,7 +3,6 @@ use Rattle.text.proofs.Laws.{Left}
 use Rattle.text.specs.Text.{digits_of}
 use lib.ListN.{length}
 use mathlib.Core.Path.{◌≡◌}
-use Prim.Native.Nat.{◌-◌}
 use Rattle.text.proofs.put_digits.Given as goal
 
 abbrev pub invariant-loop-left : goal.invariant-loop-left

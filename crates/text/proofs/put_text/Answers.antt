@@ -1,6 +1,5 @@
 use Rattle.text.proofs.Laws.{text_all, text_more, text_none}
 use borrow.Author.Rules.{rules}
-use Prim.Native.Nat.{◌-◌}
 use Rattle.text.proofs.put_text.Goals as goal
 
 pub loop-i-init : goal.loop-i-init

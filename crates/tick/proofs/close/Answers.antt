@@ -19,4 +19,4 @@ pub returns : goal.returns
 returns c =
     let l = to_z-of_z c.ranges.left in
     let r = to_z-of_z c.ranges.right in
-    close_does _ _ _ _ _ _ _ c.mix-sums.ensures.0 l r c.capture-captured.ensures l r c.turn-t.ensures l r c.mixed-pair.ensures c.at.ensures c.next.ensures c.wrapping_add_u32.ensures
+    close_does _ _ _ _ _ _ _ c.mix-sums.ensures.0 l r c.capture-captured.ensures l r c.turn-t.ensures l r c.mixed-pair.ensures c.at.ensures c.next.ensures c.wrapping_add_u32.ensures.value

@@ -1,4 +1,3 @@
-use Prim.Native.Nat.{◌-◌}
 use borrow.Author.Rules.{rules}
 use Rattle.fixed.proofs.Bools.{all_none, all_tested}
 use Rattle.transfer.proofs.Whole.{tested_more}

@@ -1,5 +1,4 @@
 use mathlib.Core.Path.{refl}
-use Prim.Native.Nat.{◌-◌}
 use native.Mathlib.Omega.{arith}
 use Rattle.soundram.proofs.Programs.{lent_after, repeat_none, repeat_more, repeat_end}
 use Rattle.transfer.specs.Transfer.{inward_of}

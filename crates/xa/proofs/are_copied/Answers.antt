@@ -1,4 +1,3 @@
-use Prim.Native.Nat.{◌-◌}
 use borrow.Author.Rules.{rules}
 use Rattle.fixed.proofs.Bools.{all_none, all_more, all_tested}
 use Rattle.xa.proofs.are_copied.Goals as goal

@@ -1,5 +1,4 @@
 use mathlib.Core.Path.{refl}
-use Prim.Native.Nat.{◌-◌}
 use borrow.Author.Rules.{rules}
 use Rattle.fixed.proofs.Bools.{all_none, all_more, all_tested}
 use Rattle.xa.proofs.is_group_copied.Goals as goal

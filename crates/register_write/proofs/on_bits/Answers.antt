@@ -1,0 +1,27 @@
+use mathlib.Core.Path.{refl}
+use Prim.Native.Nat.{◌-◌}
+use native.Mathlib.Omega.{arith}
+use borrow.Author.Rules.{rules}
+use Rattle.layout.specs.Layout.{state_of}
+use Rattle.layout.proofs.Laws.{same_size}
+use Rattle.register_write.specs.Keys.{key_bits}
+use Rattle.register_write.proofs.Work.{still_sized, bits_none_in, bits_more_in, holds_end}
+use Rattle.register_write.proofs.on_bits.Goals as goal
+
+pub loop-k-init : goal.loop-k-init
+loop-k-init c = (omega arith, search bits_none_in)
+
+pub key-requires : goal.key-requires
+key-requires c = (search rules, search rules, still_sized _ c.requires.3 c.loop-k.invariant.1 refl)
+
+pub loop-k-preserved : goal.loop-k-preserved
+loop-k-preserved c = (search rules, search bits_more_in)
+
+pub shape_of-state : goal.shape_of-state
+shape_of-state c = search same_size
+
+pub returns : goal.returns
+returns c =
+    let v = c.loop-k.invariant in
+    let a = c.args in
+    holds_end (key_bits a.on (state_of a.state.now) a.value a.first) _ _ v.1 v.0 c.loop-k-test.false

@@ -1,0 +1,174 @@
+use borrow.Author.Rules.{rules}
+use mathlib.Core.Path.{refl, sym, ap, ◌∙◌}
+use mathlib.Core.Bool.{not}
+use Prim.Native.Nat.{◌-◌}
+use Rattle.pitch.proofs.Laws.{moved_counter}
+use Rattle.soundram.specs.declared.Reader.{Reader}
+use Rattle.soundram.specs.Program.{mem_of}
+use Rattle.voice.specs.Voice.{ready_of}
+use Rattle.layout.specs.Layout.{voice_in}
+use Rattle.tick_runs.specs.Run.{Becomes}
+use Rattle.tick_runs.proofs.Voices.{ready_has, ready_none, ready_in_range, steps_stay, play_plays, idle_plays, played_none, played_in, played_more, played_all}
+use Rattle.tick_runs.proofs.play_all.Goals as goal
+use Rattle.tick_runs.proofs.play_all.Goals.{then-not-loaded, else-not-loaded}
+
+pub loop-n-init : goal.loop-n-init
+loop-n-init c =
+    let z = c.requires in
+    (search rules, played_none _ z.4 z.5 refl)
+
+pub loop-n-preserved-then-is_idle : goal.loop-n-preserved-then-is_idle
+loop-n-preserved-then-is_idle c =
+    let z = c.requires in
+    let p = c.loop-n.invariant.1 in
+    let h = c.loop-n-test.true in
+    let i = c.is_idle.ensures in
+    let t = c.if-is_idle.true in
+    (search rules, played_more p z.6.sized h (idle_plays _ _ _ _ _ _ _ p.holds.formed i t) refl)
+
+pub voice-v-requires : goal.voice-v-requires
+voice-v-requires c =
+    let p = c.loop-n.invariant.1 in
+    let h = c.loop-n-test.true in
+    (h, p.holds.formed, (played_in p h).index)
+
+pub load-seen-requires : goal.load-seen-requires
+load-seen-requires c =
+    let z = c.requires in
+    let p = c.loop-n.invariant.1 in
+    let h = c.loop-n-test.true in
+    let v = c.voice-v.ensures in
+    let r = played_in p h in
+    (h, p.holds.formed, rw v r.multiple, rw v r.below, z.6)
+
+pub stay-m-requires : goal.stay-m-requires
+stay-m-requires c =
+    let z = c.requires in
+    let p = c.loop-n.invariant.1 in
+    let h = c.loop-n-test.true in
+    let g = c.loaded.ensures in
+    -- the voice has a block, whichever way it came
+    let b : Becomes c.loop-n.n (ready_of (Reader.Voice c.loop-n.n) c.args.size (voice_in c.loop-n.state c.loop-n.n)) c.loop-n.state
+            (mem_of c.args.ram.now c.args.marks.now c.loop-n.watch) c.if-not-loaded.state (mem_of c.args.ram.now c.args.marks.now c.if-not-loaded.watch) =
+        elim c.if-not-loaded.branch [
+          | then-not-loaded w ↦ rw (w.state-is, w.watch-is) (ready_none _ _ _ g (ap not w.if-not-loaded.true) w.voice-v.ensures w.load-seen.ensures)
+          | else-not-loaded w ↦ rw (w.state-is, w.watch-is) (ready_has _ _ _ _ p.holds.formed g (ap not w.if-not-loaded.false))
+        ]
+    in
+    let r = ready_in_range _ _ _ h b (played_in p h) in
+    (z.0, h, z.1, z.2, z.3.each _ h, b.holds.formed.size, r.counter, r.index, r.envelope.level)
+
+pub pass_end-seen-requires : goal.pass_end-seen-requires
+pass_end-seen-requires c =
+    let z = c.requires in
+    let p = c.loop-n.invariant.1 in
+    let h = c.loop-n-test.true in
+    let g = c.loaded.ensures in
+    -- the voice has a block, whichever way it came
+    let b : Becomes c.loop-n.n (ready_of (Reader.Voice c.loop-n.n) c.args.size (voice_in c.loop-n.state c.loop-n.n)) c.loop-n.state
+            (mem_of c.args.ram.now c.args.marks.now c.loop-n.watch) c.if-not-loaded.state (mem_of c.args.ram.now c.args.marks.now c.if-not-loaded.watch) =
+        elim c.if-not-loaded.branch [
+          | then-not-loaded w ↦ rw (w.state-is, w.watch-is) (ready_none _ _ _ g (ap not w.if-not-loaded.true) w.voice-v.ensures w.load-seen.ensures)
+          | else-not-loaded w ↦ rw (w.state-is, w.watch-is) (ready_has _ _ _ _ p.holds.formed g (ap not w.if-not-loaded.false))
+        ]
+    in
+    let m = c.stay-m.ensures in
+    let t = c.if-m-gt27.true in
+    (h, z.1, z.2, b.holds.formed, ready_in_range _ _ _ h b (played_in p h), rw m.0 (moved_counter _ _), t, m.2, z.6)
+
+pub overflow_add-n-then-m-gt27 : goal.overflow_add-n-then-m-gt27
+overflow_add-n-then-m-gt27 c =
+    let h = c.loop-n-test.true in
+    search (rules, h)
+
+pub loop-n-smaller-then-m-gt27 : goal.loop-n-smaller-then-m-gt27
+loop-n-smaller-then-m-gt27 c =
+    let h = c.loop-n-test.true in
+    search (rules, h)
+
+pub loop-n-preserved-then-m-gt27 : goal.loop-n-preserved-then-m-gt27
+loop-n-preserved-then-m-gt27 c =
+    let z = c.requires in
+    let p = c.loop-n.invariant.1 in
+    let h = c.loop-n-test.true in
+    let i = c.is_idle.ensures in
+    let f = c.if-is_idle.false in
+    let g = c.loaded.ensures in
+    -- the voice has a block, whichever way it came
+    let b : Becomes c.loop-n.n (ready_of (Reader.Voice c.loop-n.n) c.args.size (voice_in c.loop-n.state c.loop-n.n)) c.loop-n.state
+            (mem_of c.args.ram.now c.args.marks.now c.loop-n.watch) c.if-not-loaded.state (mem_of c.args.ram.now c.args.marks.now c.if-not-loaded.watch) =
+        elim c.if-not-loaded.branch [
+          | then-not-loaded w ↦ rw (w.state-is, w.watch-is) (ready_none _ _ _ g (ap not w.if-not-loaded.true) w.voice-v.ensures w.load-seen.ensures)
+          | else-not-loaded w ↦ rw (w.state-is, w.watch-is) (ready_has _ _ _ _ p.holds.formed g (ap not w.if-not-loaded.false))
+        ]
+    in
+    let m = c.stay-m.ensures in
+    let e = c.pass_end-seen.ensures in
+    let x = c.struct_told-1.given in
+    (search (rules, h), played_more p z.6.sized h (play_plays _ _ _ h b _ _ _ (sym i ∙ f) refl m.0 m.1 m.3 refl e) (search (rules, x)))
+
+pub put_position-requires : goal.put_position-requires
+put_position-requires c =
+    let p = c.loop-n.invariant.1 in
+    let h = c.loop-n-test.true in
+    let g = c.loaded.ensures in
+    -- the voice has a block, whichever way it came
+    let b : Becomes c.loop-n.n (ready_of (Reader.Voice c.loop-n.n) c.args.size (voice_in c.loop-n.state c.loop-n.n)) c.loop-n.state
+            (mem_of c.args.ram.now c.args.marks.now c.loop-n.watch) c.if-not-loaded.state (mem_of c.args.ram.now c.args.marks.now c.if-not-loaded.watch) =
+        elim c.if-not-loaded.branch [
+          | then-not-loaded w ↦ rw (w.state-is, w.watch-is) (ready_none _ _ _ g (ap not w.if-not-loaded.true) w.voice-v.ensures w.load-seen.ensures)
+          | else-not-loaded w ↦ rw (w.state-is, w.watch-is) (ready_has _ _ _ _ p.holds.formed g (ap not w.if-not-loaded.false))
+        ]
+    in
+    (h, b.holds.formed)
+
+pub step_envelope-requires : goal.step_envelope-requires
+step_envelope-requires c =
+    let z = c.requires in
+    let h = c.loop-n-test.true in
+    let q = c.put_position.ensures in
+    (h, z.1, z.2, q.formed)
+
+pub overflow_add-n-in-loop-n : goal.overflow_add-n-in-loop-n
+overflow_add-n-in-loop-n c =
+    let h = c.loop-n-test.true in
+    search (rules, h)
+
+pub loop-n-smaller : goal.loop-n-smaller
+loop-n-smaller c =
+    let h = c.loop-n-test.true in
+    search (rules, h)
+
+pub loop-n-preserved : goal.loop-n-preserved
+loop-n-preserved c =
+    let z = c.requires in
+    let p = c.loop-n.invariant.1 in
+    let h = c.loop-n-test.true in
+    let i = c.is_idle.ensures in
+    let f = c.if-is_idle.false in
+    let g = c.loaded.ensures in
+    -- the voice has a block, whichever way it came
+    let b : Becomes c.loop-n.n (ready_of (Reader.Voice c.loop-n.n) c.args.size (voice_in c.loop-n.state c.loop-n.n)) c.loop-n.state
+            (mem_of c.args.ram.now c.args.marks.now c.loop-n.watch) c.if-not-loaded.state (mem_of c.args.ram.now c.args.marks.now c.if-not-loaded.watch) =
+        elim c.if-not-loaded.branch [
+          | then-not-loaded w ↦ rw (w.state-is, w.watch-is) (ready_none _ _ _ g (ap not w.if-not-loaded.true) w.voice-v.ensures w.load-seen.ensures)
+          | else-not-loaded w ↦ rw (w.state-is, w.watch-is) (ready_has _ _ _ _ p.holds.formed g (ap not w.if-not-loaded.false))
+        ]
+    in
+    let m = c.stay-m.ensures in
+    let t = c.if-m-gt27.false in
+    let q = c.put_position.ensures in
+    let e = c.step_envelope.ensures in
+    let x = c.struct_told-1.given in
+    (search (rules, h), played_more p z.6.sized h (play_plays _ _ _ h b _ _ _ (sym i ∙ f) refl m.0 m.1 m.3 refl (steps_stay _ _ _ _ _ _ _ h t q e)) (search (rules, x)))
+
+pub shape_of-state : goal.shape_of-state
+shape_of-state c =
+    let z = c.requires in
+    let p = c.loop-n.invariant.1 in
+    p.holds.formed.size ∙ sym z.4.size
+
+pub returns : goal.returns
+returns c =
+    let p = c.loop-n.invariant.1 in
+    played_all p (search rules)

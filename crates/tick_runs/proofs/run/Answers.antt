@@ -1,0 +1,58 @@
+use borrow.Author.Rules.{rules}
+use mathlib.Core.Path.{refl, sym, ◌∙◌}
+use Prim.Native.Nat.{◌+◌, ◌-◌, ◌^◌, ◌<◌}
+use native.Mathlib.Omega.{arith}
+use Rattle.tick_runs.proofs.Ticks.{running_none, running_all, running_more, running_end}
+use Rattle.tick_runs.proofs.run.Goals as goal
+
+pub begin-g-requires : goal.begin-g-requires
+begin-g-requires c = (c.requires.0, c.requires.1, c.registers-regs.ensures)
+
+pub loop-k-init : goal.loop-k-init
+loop-k-init c = running_none _ _ _ _ _ _ c.requires.0 c.requires.1 c.requires.2 c.begin-g.ensures
+
+pub play_all-p-requires : goal.play_all-p-requires
+play_all-p-requires c =
+    let p = c.loop-k.invariant in
+    (c.table-table.ensures, c.modulation-pmon.ensures, c.flags-non.ensures, c.steps-steps.ensures, p.holds.formed, running_all p c.size-size.ensures, rw c.size-size.ensures p.lent)
+
+pub finish-next-requires : goal.finish-next-requires
+finish-next-requires c =
+    let p = c.loop-k.invariant in
+    let h = c.loop-k-test.true in
+    let e = p.len in
+    let r = c.registers-regs.ensures in
+    let s = c.size-size.ensures in
+    (rw s p.lent, p.range.capture, rw (s, r) p.range.place, omega arith, c.volumes-volumes.ensures)
+
+pub overflow_step-k : goal.overflow_step-k
+overflow_step-k c =
+    let h = c.loop-k-test.true in
+    let b : c.loop-k.k + 1 < 2 ^ 64 = omega (arith, c.well_formed.1.1.1.1.0) in
+    search (rules, b)
+
+pub loop-k-smaller : goal.loop-k-smaller
+loop-k-smaller c =
+    omega (arith, c.loop-k-test.true)
+
+pub loop-k-preserved : goal.loop-k-preserved
+loop-k-preserved c =
+    running_more c.loop-k.invariant c.loop-k-test.true c.size-size.ensures c.registers-regs.ensures c.play_all-p.ensures c.finish-next.ensures
+
+pub end-requires : goal.end-requires
+end-requires c = let p = c.loop-k.invariant in (p.holds.formed, p.range.capture.even, p.range.place.even)
+
+pub shape_of-state : goal.shape_of-state
+shape_of-state c = let p = c.loop-k.invariant in c.end.ensures.formed.size ∙ sym c.requires.0.size
+
+pub shape_of-ram : goal.shape_of-ram
+shape_of-ram c = let p = c.loop-k.invariant in p.lent.ram_size ∙ sym c.requires.2.ram_size
+
+pub shape_of-marks : goal.shape_of-marks
+shape_of-marks c = let p = c.loop-k.invariant in (omega (arith, p.lent.marks_size, c.requires.2.marks_size))
+
+pub shape_of-out : goal.shape_of-out
+shape_of-out c = c.loop-k.invariant.len
+
+pub returns : goal.returns
+returns c = running_end c.loop-k.invariant c.loop-k-test.false refl c.end.ensures
