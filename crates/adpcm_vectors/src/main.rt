@@ -2,47 +2,48 @@
 // outside decoder's.
 #![tactic(auto)]
 
-use libc::STDOUT_FILENO;
+use std::fs::File;
+use std::io;
+use std::io::Read;
 
 const BLOCKS: u32 = 288;
 
-fn print_sample(x: i16, end: u8) {
+fn print_sample(rt: &impl Print, x: i16, end: u8) -> io::Result<()> {
     let bits = fixed::to_bits(x) as u64;
     if bits < 0x8000 {
-        io::print_decimal(STDOUT_FILENO, bits);
+        rt.print(bits)?;
     } else {
-        io::write_all(STDOUT_FILENO, b"-");
-        io::print_decimal(STDOUT_FILENO, 0x10000 - bits);
+        rt.write_all(b"-")?;
+        rt.print(0x10000 - bits)?;
     }
-    io::write_all(STDOUT_FILENO, &[end]);
+    rt.write_all(&[end])
 }
 
-fn print_block(samples: [i16; 28]) {
+fn print_block(rt: &impl Print, samples: [i16; 28]) -> io::Result<()> {
     for i in 0..28usize {
-        print_sample(samples[i], if i == 27 { b'\n' } else { b' ' });
+        print_sample(rt, samples[i], if i == 27 { b'\n' } else { b' ' })?;
     }
+    Ok(())
 }
 
-fn decode_all(fd: i32) {
+fn decode_all(rt: &impl Print, file: &mut impl Read) -> io::Result<()> {
     let mut old = 0i16;
     let mut older = 0i16;
     for _ in 0..BLOCKS {
         let mut bytes = [0u8; 16];
-        io::read_full(fd, &mut bytes);
+        file.read_exact(&mut bytes)?;
         let samples = adpcm::decode(bytes, old, older);
-        print_block(samples);
+        print_block(rt, samples)?;
         old = samples[27];
         older = samples[26];
     }
+    Ok(())
 }
 
-fn main() {
-    let path = b"spu-adpcm.spu";
-    let fd = os::open_read(path);
-    if fd < 0 {
-        os::fail(path);
-        return;
+fn main(rt: HostRuntime) -> io::Result<()> {
+    let path = "spu-adpcm.spu";
+    match File::open(&rt, path) {
+        Ok(mut file) => decode_all(&rt, &mut file),
+        Err(e) => eprintln!(rt; "{path}: {e}"),
     }
-    decode_all(fd);
-    libc::close(fd);
 }

@@ -3,10 +3,12 @@
 #![tactic(auto)]
 
 ghost use Rattle.std.specs.Prelude.{◌≡◌, ◌≤◌, length};
-ghost use Rattle.io.specs.Counts.{IsPrefixLen};
+ghost use Rattle.std.specs.Io.{ReadsAtMost};
 
 use bank::Damage;
-use libc::STDOUT_FILENO;
+use std::io::Read;
+use std::rt::Files;
+use std::{fs, io};
 
 const ROOM: usize = 512;
 
@@ -15,100 +17,102 @@ const ENTRIES: usize = 6;
 
 // ---- output
 
-fn print_text(text: &[u8]) {
-    io::write_all(STDOUT_FILENO, text);
+fn print_text(rt: &impl Print, text: &[u8]) -> io::Result<()> {
+    rt.write_all(text)
 }
 
-fn print_number(n: u64, end: u8) {
-    io::print_decimal(STDOUT_FILENO, n);
-    io::write_all(STDOUT_FILENO, &[end]);
+fn print_number(rt: &impl Print, n: u64, end: u8) -> io::Result<()> {
+    rt.print(n)?;
+    rt.write_all(&[end])
 }
 
-fn print_byte(byte: u8) {
-    print_text(b" ");
-    io::print_hex(STDOUT_FILENO, byte as u64, 2);
+fn print_byte(rt: &impl Print, byte: u8) -> io::Result<()> {
+    print_text(rt, b" ")?;
+    print!(rt; "{byte:02x}")
 }
 
-fn print_bytes(bytes: &[u8]) {
+fn print_bytes(rt: &impl Print, bytes: &[u8]) -> io::Result<()> {
     for i in 0..bytes.len() {
-        print_byte(bytes[i]);
+        print_byte(rt, bytes[i])?;
     }
+    Ok(())
 }
 
 // ---- one bank
 
-fn print_place(place: u64, entry: u32) {
-    print_number(place, b' ');
-    print_number(entry as u64, b'\n');
+fn print_place(rt: &impl Print, place: u64, entry: u32) -> io::Result<()> {
+    print_number(rt, place, b' ')?;
+    print_number(rt, entry as u64, b'\n')
 }
 
-fn print_damage(bank: &[u8]) {
+fn print_damage(rt: &impl Print, bank: &[u8]) -> io::Result<()> {
     let damage = bank::check(bank);
     match damage {
-        Damage::Nowhere => print_place(0, 0),
-        Damage::InHeader => print_place(1, 0),
-        Damage::AtEntry(entry) => print_place(2, entry),
+        Damage::Nowhere => print_place(rt, 0, 0),
+        Damage::InHeader => print_place(rt, 1, 0),
+        Damage::AtEntry(entry) => print_place(rt, 2, entry),
     }
 }
 
 // The line of entry n, and whether there is one.
-fn print_entry(bank: &[u8], n: u32) -> bool {
+fn print_entry(rt: &impl Print, bank: &[u8], n: u32) -> io::Result<bool> {
     let fields = bank::read_entry(bank, n);
-    print_text(b"entry ");
-    print_number(n as u64, b' ');
-    print_number(fields.number as u64, b' ');
-    print_number(fields.entry.kind as u64, b' ');
-    print_number(fields.entry.offset as u64, b' ');
-    print_number(fields.entry.count as u64, b'\n');
-    fields.number == 0
+    print_text(rt, b"entry ")?;
+    print_number(rt, n as u64, b' ')?;
+    print_number(rt, fields.number as u64, b' ')?;
+    print_number(rt, fields.entry.kind as u64, b' ')?;
+    print_number(rt, fields.entry.offset as u64, b' ')?;
+    print_number(rt, fields.entry.count as u64, b'\n')?;
+    Ok(fields.number == 0)
 }
 
 // Up to the first number without an entry.
-fn print_entries(bank: &[u8]) {
+fn print_entries(rt: &impl Print, bank: &[u8]) -> io::Result<()> {
     for n in 0..1025u32 {
-        if !print_entry(bank, n) {
-            return;
+        if !print_entry(rt, bank, n)? {
+            return Ok(());
         }
     }
+    Ok(())
 }
 
-fn print_bank(name: &[u8], bank: &[u8]) {
-    print_text(name);
-    print_number(bank.len() as u64, b' ');
-    print_damage(bank);
-    print_entries(bank);
+fn print_bank(rt: &impl Print, name: &[u8], bank: &[u8]) -> io::Result<()> {
+    print_text(rt, name)?;
+    print_number(rt, bank.len() as u64, b' ')?;
+    print_damage(rt, bank)?;
+    print_entries(rt, bank)
 }
 
 // ---- two banks
 
-fn print_found(title: &[u8], house: &[u8], n: u32) {
+fn print_found(rt: &impl Print, title: &[u8], house: &[u8], n: u32) -> io::Result<()> {
     let found = bank::find(title, house, n);
-    print_text(b"find ");
-    print_number(n as u64, b' ');
-    print_number(found.number as u64, b' ');
-    print_number(found.house as u64, b' ');
-    print_number(found.entry as u64, b' ');
-    print_number(found.offset as u64, b' ');
-    print_number(found.length as u64, b'\n');
+    print_text(rt, b"find ")?;
+    print_number(rt, n as u64, b' ')?;
+    print_number(rt, found.number as u64, b' ')?;
+    print_number(rt, found.house as u64, b' ')?;
+    print_number(rt, found.entry as u64, b' ')?;
+    print_number(rt, found.offset as u64, b' ')?;
+    print_number(rt, found.length as u64, b'\n')
 }
 
-fn print_sound<'a>(title: &'a [u8], house: &'a [u8], n: u32) {
-    print_found(title, house, n);
+fn print_sound<'a>(rt: &impl Print, title: &'a [u8], house: &'a [u8], n: u32) -> io::Result<()> {
+    print_found(rt, title, house, n)?;
     let sound = bank::lookup(title, house, n);
-    print_text(b"lookup ");
-    print_number(n as u64, b' ');
-    io::print_decimal(STDOUT_FILENO, sound.len() as u64);
-    print_bytes(sound);
-    print_text(b"\n");
+    print_text(rt, b"lookup ")?;
+    print_number(rt, n as u64, b' ')?;
+    rt.print(sound.len())?;
+    print_bytes(rt, sound)?;
+    print_text(rt, b"\n")
 }
 
-fn print_sounds<'a>(title: &'a [u8], house: &'a [u8]) {
+fn print_sounds<'a>(rt: &impl Print, title: &'a [u8], house: &'a [u8]) -> io::Result<()> {
     for n in 0..13u32 {
-        print_sound(title, house, n);
+        print_sound(rt, title, house, n)?;
     }
-    print_sound(title, house, 0x10000);
-    print_sound(title, house, 0x80000000);
-    print_sound(title, house, 0xFFFFFFFF);
+    print_sound(rt, title, house, 0x10000)?;
+    print_sound(rt, title, house, 0x80000000)?;
+    print_sound(rt, title, house, 0xFFFFFFFF)
 }
 
 // ---- a bank written again
@@ -154,22 +158,23 @@ fn begins(out: &[u8; ROOM], bank: &[u8]) -> bool {
 // The bank of these lists and data, written into the first `room` bytes of a buffer: the number, the length, whether the buffer then begins with
 // `bank`, and how many bytes past the length changed.
 fn print_written(
+    rt: &impl Print,
     kinds: &[u16; ENTRIES],
     offsets: &[u32; ENTRIES],
     counts: &[u32; ENTRIES],
     data: &[u8],
     room: usize,
     bank: &[u8],
-)
+) -> io::Result<()>
     requires { room ≤ 512 }
 {
     let mut out = filled();
     let written = bank_write::write(kinds, offsets, counts, data, &mut out[..room]);
-    print_text(b"write ");
-    print_number(written.number as u64, b' ');
-    print_number(written.length as u64, b' ');
-    print_number(begins(&out, bank) as u64, b' ');
-    print_number(changed(&out, written.length), b'\n');
+    print_text(rt, b"write ")?;
+    print_number(rt, written.number as u64, b' ')?;
+    print_number(rt, written.length as u64, b' ')?;
+    print_number(rt, begins(&out, bank) as u64, b' ')?;
+    print_number(rt, changed(&out, written.length), b'\n')
 }
 
 fn collect(
@@ -187,68 +192,86 @@ fn collect(
 }
 
 // A bank from its own entries and data: in room enough, in a byte too little, and with entry 3 an alias of itself.
-fn print_writes(bank: &[u8]) {
+fn print_writes(rt: &impl Print, bank: &[u8]) -> io::Result<()> {
     let mut kinds = [0u16; ENTRIES];
     let mut offsets = [0u32; ENTRIES];
     let mut counts = [0u32; ENTRIES];
     collect(bank, &mut kinds, &mut offsets, &mut counts);
     let end = bank::header_end(ENTRIES as u16);
     if bank.len() <= end {
-        return;
+        return Ok(());
     }
     if ROOM < bank.len() {
-        return;
+        return Ok(());
     }
     let data = &bank[end..];
-    print_written(&kinds, &offsets, &counts, data, ROOM, bank);
-    print_written(&kinds, &offsets, &counts, data, bank.len() - 1, bank);
+    print_written(rt, &kinds, &offsets, &counts, data, ROOM, bank)?;
+    print_written(rt, &kinds, &offsets, &counts, data, bank.len() - 1, bank)?;
     offsets[3] = 3;
-    print_written(&kinds, &offsets, &counts, data, ROOM, bank);
+    print_written(rt, &kinds, &offsets, &counts, data, ROOM, bank)
 }
 
 // ---- the program
 
-// Puts a file at the start of a buffer, and answers its length.
-fn read_file(path: &[u8], buffer: &mut [u8]) -> usize
-    ensures { IsPrefixLen result buffer.new }
+// Fills a buffer from its start, up to its end or the file's, and answers how many bytes that took.
+fn read_full(file: &mut impl Read, buffer: &mut [u8]) -> io::Result<usize>
+    ensures { ReadsAtMost result buffer.new }
 {
-    let fd = os::open_read(path);
-    if fd < 0 {
-        os::fail(path);
-        return 0;
+    let mut done = 0;
+    while done < buffer.len() {
+        let n = file.read(&mut buffer[done..])?;
+        if n == 0 {
+            break;
+        }
+        done += n;
     }
-    let n = io::read_full(fd, buffer);
-    libc::close(fd);
-    n
+    Ok(done)
 }
 
-fn print_good<'a>(title: &'a [u8], house: &'a [u8]) {
-    print_bank(b"title ", title);
-    print_bank(b"house ", house);
-    print_sounds(title, house);
-    print_writes(title);
+// Puts a file at the start of a buffer, and answers its length. Says on standard error why a file does not open, and answers 0.
+fn read_file<R: Files + Eprint>(rt: &R, path: &str, buffer: &mut [u8]) -> io::Result<usize>
+    ensures { ReadsAtMost result buffer.new }
+{
+    match fs::open(rt, path) {
+        Ok(mut file) => read_full(&mut file, buffer),
+        Err(e) => {
+            eprintln!(rt; "{path}: {e}")?;
+            Ok(0)
+        }
+    }
+}
+
+fn print_good<'a>(rt: &impl Print, title: &'a [u8], house: &'a [u8]) -> io::Result<()> {
+    print_bank(rt, b"title ", title)?;
+    print_bank(rt, b"house ", house)?;
+    print_sounds(rt, title, house)?;
+    print_writes(rt, title)
 }
 
 // Entry 9 of the house's bank is made to lead to itself.
-fn print_damaged(title: &[u8], house: &mut [u8]) {
+fn print_damaged(rt: &impl Print, title: &[u8], house: &mut [u8]) -> io::Result<()> {
     if house.len() <= 94 {
-        return;
+        return Ok(());
     }
     house[94] = 9;
-    print_bank(b"damaged ", house);
-    print_sound(title, house, 0);
-    print_sound(title, house, 6);
+    print_bank(rt, b"damaged ", house)?;
+    print_sound(rt, title, house, 0)?;
+    print_sound(rt, title, house, 6)
 }
 
-fn print_all(title: &mut [u8], house: &mut [u8]) {
-    let t = read_file(b"title.bank", title);
-    let h = read_file(b"house.bank", house);
-    print_good(&title[..t], &house[..h]);
-    print_damaged(&title[..t], &mut house[..h]);
+fn print_all<R: Files + Print + Eprint>(
+    rt: &R,
+    title: &mut [u8],
+    house: &mut [u8],
+) -> io::Result<()> {
+    let t = read_file(rt, "title.bank", title)?;
+    let h = read_file(rt, "house.bank", house)?;
+    print_good(rt, &title[..t], &house[..h])?;
+    print_damaged(rt, &title[..t], &mut house[..h])
 }
 
-fn main() {
+fn main(rt: HostRuntime) -> io::Result<()> {
     let mut title = [0u8; ROOM];
     let mut house = [0u8; ROOM];
-    print_all(&mut title, &mut house);
+    print_all(&rt, &mut title, &mut house)
 }

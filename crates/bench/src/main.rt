@@ -1,6 +1,6 @@
 // The program bench of document 01.
 #![tactic(auto)]
 
-fn main() {
-    sessions::bench();
+fn main(rt: HostRuntime) {
+    sessions::bench(&rt);
 }

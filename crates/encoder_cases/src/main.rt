@@ -5,7 +5,9 @@
 ghost use Rattle.std.specs.Prelude.{◌*◌, ◌≤◌, length};
 
 use encoder_check::{Fault, Verdict};
-use libc::STDOUT_FILENO;
+use std::io::Read;
+use std::rt::Files;
+use std::{fs, io};
 
 const CASES: u32 = 100;
 
@@ -13,37 +15,36 @@ const CASE_BYTES: usize = 438;
 
 // ---- output
 
-fn print_fault(f: Fault) {
-    io::write_all(STDOUT_FILENO, b"no ");
-    io::print_decimal(STDOUT_FILENO, f.block as u64);
+fn print_fault(rt: &impl Print, f: Fault) -> io::Result<()> {
+    rt.write_all(b"no ")?;
+    rt.print(f.block)?;
     if f.unpaired {
-        io::write_all(STDOUT_FILENO, b" unpaired");
+        rt.write_all(b" unpaired")?;
     }
     if f.sample < 28 {
-        io::write_all(STDOUT_FILENO, b" sample ");
-        io::print_decimal(STDOUT_FILENO, f.sample as u64);
+        rt.write_all(b" sample ")?;
+        rt.print(f.sample)?;
     }
     if f.end_flag {
-        io::write_all(STDOUT_FILENO, b" end_flag");
+        rt.write_all(b" end_flag")?;
     }
     if f.filter {
-        io::write_all(STDOUT_FILENO, b" filter");
+        rt.write_all(b" filter")?;
     }
-    io::write_all(STDOUT_FILENO, b"\n");
+    rt.write_all(b"\n")
 }
 
-fn print_verdict(originals: &[i16], encoded: &[u8], largest: u16) {
+fn print_verdict(
+    rt: &impl Print,
+    originals: &[i16],
+    encoded: &[u8],
+    largest: u16,
+) -> io::Result<()> {
     let verdict = encoder_check::check(originals, encoded, largest);
     match verdict {
-        Verdict::Yes => {
-            io::write_all(STDOUT_FILENO, b"yes\n");
-        }
-        Verdict::No(fault) => {
-            print_fault(fault);
-        }
-        Verdict::Refused => {
-            io::write_all(STDOUT_FILENO, b"23\n");
-        }
+        Verdict::Yes => rt.write_all(b"yes\n"),
+        Verdict::No(fault) => print_fault(rt, fault),
+        Verdict::Refused => rt.write_all(b"23\n"),
     }
 }
 
@@ -70,77 +71,80 @@ fn change(samples: &mut [i16]) {
     }
 }
 
-fn check_prefix(originals: &[i16], encoded: &[u8]) {
+fn check_prefix(rt: &impl Print, originals: &[i16], encoded: &[u8]) -> io::Result<()> {
     if originals.len() < 2800 {
-        return;
+        return Ok(());
     }
     if encoded.len() < 1600 {
-        return;
+        return Ok(());
     }
-    print_verdict(&originals[..2800], &encoded[..1600], 0);
+    print_verdict(rt, &originals[..2800], &encoded[..1600], 0)
 }
 
-fn check_sound(originals: &mut [i16], encoded: &[u8]) {
-    print_verdict(originals, encoded, 0);
+fn check_sound(rt: &impl Print, originals: &mut [i16], encoded: &[u8]) -> io::Result<()> {
+    print_verdict(rt, originals, encoded, 0)?;
     change(originals);
-    print_verdict(originals, encoded, 0);
-    print_verdict(originals, encoded, 1);
-    check_prefix(originals, encoded);
+    print_verdict(rt, originals, encoded, 0)?;
+    print_verdict(rt, originals, encoded, 1)?;
+    check_prefix(rt, originals, encoded)
 }
 
-fn check_outside(fd: i32) {
+fn check_outside(rt: &impl Print, file: &mut impl Read) -> io::Result<()> {
     let mut bytes = [0u8; 16128];
-    io::read_full(fd, &mut bytes);
+    file.read_exact(&mut bytes)?;
     let mut encoded = [0u8; 4608];
-    io::read_full(fd, &mut encoded);
+    file.read_exact(&mut encoded)?;
     let mut originals = [0i16; 8064];
     read_samples(&bytes, &mut originals);
-    check_sound(&mut originals, &encoded);
+    check_sound(rt, &mut originals, &encoded)
 }
 
 // ---- the edges
 
 // A case is E, the numbers of originals and of encoded bytes, room for 168 originals, and room for 96 bytes.
-fn answer_case(case: &[u8], originals: &[i16]) {
+fn answer_case(rt: &impl Print, case: &[u8], originals: &[i16]) -> io::Result<()> {
     if case.len() < CASE_BYTES {
-        return;
+        return Ok(());
     }
     if originals.len() < 168 {
-        return;
+        return Ok(());
     }
     let largest = little_endian::half_at(case, 0);
     let samples = little_endian::half_at(case, 2) as usize % 169;
     let bytes = little_endian::half_at(case, 4) as usize % 97;
-    print_verdict(&originals[..samples], &case[342..342 + bytes], largest);
+    print_verdict(rt, &originals[..samples], &case[342..342 + bytes], largest)
 }
 
-fn answer_cases(fd: i32) {
+fn answer_cases(rt: &impl Print, file: &mut impl Read) -> io::Result<()> {
     for _ in 0..CASES {
         let mut case = [0u8; CASE_BYTES];
-        io::read_full(fd, &mut case);
+        file.read_exact(&mut case)?;
         let mut originals = [0i16; 168];
         read_samples(&case[6..342], &mut originals);
-        answer_case(&case, &originals);
+        answer_case(rt, &case, &originals)?;
     }
+    Ok(())
 }
 
 // ---- the files
 
-fn open(path: &[u8]) -> i32 {
-    let fd = os::open_read(path);
-    if fd < 0 {
-        os::fail(path);
+// Says on standard error why a file does not open.
+fn open<R: Files + Eprint>(rt: &R, path: &str) -> io::Result<Option<R::File>> {
+    match fs::open(rt, path) {
+        Ok(file) => Ok(Some(file)),
+        Err(e) => {
+            eprintln!(rt; "{path}: {e}")?;
+            Ok(None)
+        }
     }
-    fd
 }
 
-fn main() {
-    let outside = open(b"outside.bin");
-    let cases = open(b"cases.bin");
-    if (0 <= outside) & (0 <= cases) {
-        check_outside(outside);
-        answer_cases(cases);
-        libc::close(outside);
-        libc::close(cases);
+fn main(rt: HostRuntime) -> io::Result<()> {
+    let outside = open(&rt, "outside.bin")?;
+    let cases = open(&rt, "cases.bin")?;
+    if let (Some(mut outside), Some(mut cases)) = (outside, cases) {
+        check_outside(&rt, &mut outside)?;
+        answer_cases(&rt, &mut cases)?;
     }
+    Ok(())
 }

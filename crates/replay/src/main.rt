@@ -1,6 +1,6 @@
 // The program replay L: one answer to each line, L its argument.
 #![tactic(auto)]
 
-fn main() {
-    sessions::replay();
+fn main(rt: HostRuntime) {
+    sessions::replay(&rt);
 }

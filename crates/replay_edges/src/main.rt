@@ -1,6 +1,6 @@
 // The program replay again, on the edges of document 01 that are run and compared.
 #![tactic(auto)]
 
-fn main() {
-    sessions::replay();
+fn main(rt: HostRuntime) {
+    sessions::replay(&rt);
 }

@@ -1,6 +1,6 @@
 // The program replay again, on a session for L = 524,288.
 #![tactic(auto)]
 
-fn main() {
-    sessions::replay();
+fn main(rt: HostRuntime) {
+    sessions::replay(&rt);
 }

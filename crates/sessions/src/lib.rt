@@ -5,8 +5,10 @@ ghost use Rattle.std.specs.Prelude.{◌≡◌, ◌+◌, ◌≤◌, length, set};
 ghost use Rattle.sessions.specs.Fill.{filled_of};
 
 use commands::Command;
-use libc::{STDERR_FILENO, STDIN_FILENO, STDOUT_FILENO};
 use lines::Line;
+use std::env::FillError;
+use std::io::Read;
+use std::rt::Env;
 
 // The place in the output up to which answers wait, whether the output still takes bytes, and whether no read has failed.
 #[derive(Clone, Copy)]
@@ -45,7 +47,7 @@ fn unread(s: Session) -> Reading {
 // ---- output
 
 // Writes what waits, unless a write failed before.
-fn flush(out: &[u8], s: Session) -> Session
+fn flush(stdout: &impl Print, out: &[u8], s: Session) -> Session
     ensures { result.place ≡ 0 }
 {
     let place = s.place;
@@ -53,7 +55,7 @@ fn flush(out: &[u8], s: Session) -> Session
     t.place = 0;
     if place <= out.len() {
         if s.open {
-            t.open = io::write_all(STDOUT_FILENO, &out[..place]);
+            t.open = stdout.write_all(&out[..place]).is_ok();
             return t;
         }
     }
@@ -61,7 +63,7 @@ fn flush(out: &[u8], s: Session) -> Session
 }
 
 // No answer's line is longer than 512 bytes: where it might not fit, what waits is written first.
-fn roomy(out: &[u8], s: Session) -> Session
+fn roomy(stdout: &impl Print, out: &[u8], s: Session) -> Session
     ensures { 512 ≤ length out.now → result.place + 512 ≤ length out.now }
 {
     let place = s.place;
@@ -70,7 +72,7 @@ fn roomy(out: &[u8], s: Session) -> Session
             return s;
         }
     }
-    flush(out, s)
+    flush(stdout, out, s)
 }
 
 fn placed(s: Session, place: usize) -> Session {
@@ -207,6 +209,7 @@ fn tick_floats(
 }
 
 fn one_tick(
+    stdout: &impl Print,
     state: &mut [u16],
     ram: &mut [u8],
     marks: &mut [u8],
@@ -216,7 +219,7 @@ fn one_tick(
     left: i16,
     right: i16,
 ) -> Session {
-    let t = roomy(out, s);
+    let t = roomy(stdout, out, s);
     if floats {
         return tick_floats(state, ram, marks, out, t, left, right);
     }
@@ -224,6 +227,7 @@ fn one_tick(
 }
 
 fn ticks(
+    stdout: &impl Print,
     state: &mut [u16],
     ram: &mut [u8],
     marks: &mut [u8],
@@ -237,7 +241,7 @@ fn ticks(
     let mut t = s;
     let mut k = 0u32;
     while k < count {
-        t = one_tick(state, ram, marks, out, t, floats, left, right);
+        t = one_tick(stdout, state, ram, marks, out, t, floats, left, right);
         k += 1;
     }
     t
@@ -269,6 +273,7 @@ fn fill(ram: &mut [u8], from: u32, n: u32, byte: u8)
 }
 
 fn obey(
+    stdout: &impl Print,
     state: &mut [u16],
     ram: &mut [u8],
     marks: &mut [u8],
@@ -289,7 +294,11 @@ fn obey(
             count,
             left,
             right,
-        } => { ticks(state, ram, marks, out, s, floats, count, left, right) }
+        } => {
+            ticks(
+                stdout, state, ram, marks, out, s, floats, count, left, right,
+            )
+        }
         Command::View { address } => view(state, ram, out, s, address),
         Command::Reset => reset(state, out, s),
         Command::Ram { address, count } => {
@@ -324,6 +333,7 @@ fn command_of(state: &[u16], s: Session, l: Line) -> Command {
 
 // The answer to a line that has ended.
 fn answer(
+    stdout: &impl Print,
     state: &mut [u16],
     ram: &mut [u8],
     marks: &mut [u8],
@@ -332,13 +342,14 @@ fn answer(
     line: Line,
 ) -> Session {
     let l = lines_scan::finish(line);
-    let t = roomy(out, s);
+    let t = roomy(stdout, out, s);
     let c = command_of(state, t, l);
-    obey(state, ram, marks, out, t, l, c)
+    obey(stdout, state, ram, marks, out, t, l, c)
 }
 
 // What a piece of the input holds of a line, from an index on.
 fn step(
+    stdout: &impl Print,
     state: &mut [u16],
     ram: &mut [u8],
     marks: &mut [u8],
@@ -351,7 +362,7 @@ fn step(
     let found = lines_scan::scan(r.line, input, t.at);
     let line = found.line;
     if found.ended {
-        let next = answer(state, ram, marks, out, session, line);
+        let next = answer(stdout, state, ram, marks, out, session, line);
         let reading = unread(next);
         return Taken {
             reading,
@@ -370,6 +381,7 @@ fn step(
 }
 
 fn take(
+    stdout: &impl Print,
     state: &mut [u16],
     ram: &mut [u8],
     marks: &mut [u8],
@@ -383,7 +395,7 @@ fn take(
         if input.len() <= t.at {
             return t.reading;
         }
-        t = step(state, ram, marks, out, t, input);
+        t = step(stdout, state, ram, marks, out, t, input);
         most -= 1;
     }
     t.reading
@@ -403,6 +415,8 @@ fn stopped(r: Reading, failed: bool) -> Reading {
 
 // One piece of the input; none is the end.
 fn piece(
+    stdin: &mut impl Read,
+    stdout: &impl Print,
     state: &mut [u16],
     ram: &mut [u8],
     marks: &mut [u8],
@@ -410,16 +424,17 @@ fn piece(
     r: Reading,
     input: &mut [u8],
 ) -> Reading {
-    let got = libc::read(STDIN_FILENO, input);
-    let n = io::count(got, input);
-    if n == 0 {
-        return stopped(r, got < 0);
+    match stdin.read(input) {
+        Ok(0) => stopped(r, false),
+        Ok(n) => take(stdout, state, ram, marks, out, r, &input[..n]),
+        Err(_) => stopped(r, true),
     }
-    take(state, ram, marks, out, r, &input[..n])
 }
 
 // Nothing says that the input ends, so the pieces are counted down, from a number that no run uses up.
 fn pieces(
+    stdin: &mut impl Read,
+    stdout: &impl Print,
     state: &mut [u16],
     ram: &mut [u8],
     marks: &mut [u8],
@@ -433,7 +448,7 @@ fn pieces(
         if !r.more {
             return r;
         }
-        r = piece(state, ram, marks, out, r, input);
+        r = piece(stdin, stdout, state, ram, marks, out, r, input);
         turns -= 1;
     }
     r
@@ -441,6 +456,7 @@ fn pieces(
 
 // A last piece without LF is a line if it is not empty, but not where a read failed.
 fn last(
+    stdout: &impl Print,
     state: &mut [u16],
     ram: &mut [u8],
     marks: &mut [u8],
@@ -450,54 +466,58 @@ fn last(
     let line = r.line;
     let s = r.session;
     if line.begun & s.readable {
-        return answer(state, ram, marks, out, s, line);
+        return answer(stdout, state, ram, marks, out, s, line);
     }
     s
 }
 
 fn all_lines(
+    stdin: &mut impl Read,
+    stdout: &impl Print,
     state: &mut [u16],
     ram: &mut [u8],
     marks: &mut [u8],
     out: &mut [u8],
     s: Session,
 ) -> Session {
-    let mut input = io::large_buffer();
-    let r = pieces(state, ram, marks, out, s, &mut input);
-    last(state, ram, marks, out, r)
+    let mut input = [0u8; 65536];
+    let r = pieces(stdin, stdout, state, ram, marks, out, s, &mut input);
+    last(stdout, state, ram, marks, out, r)
 }
 
 // ---- the programs
 
 // The last line. After a failed read there is none, so that what was answered does not look whole.
-fn end(state: &[u16], out: &mut [u8], s: Session) -> Session {
+fn end(stdout: &impl Print, state: &[u16], out: &mut [u8], s: Session) -> Session {
     if !s.readable {
         return s;
     }
-    let t = roomy(out, s);
+    let t = roomy(stdout, out, s);
     let now = calls_state::tenonwhisk_status(state);
     placed(t, answers::ended(out, t.place, now.doubt))
 }
 
-fn complain(name: &[u8], words: &[u8]) {
-    io::write_all(STDERR_FILENO, name);
-    io::write_all(STDERR_FILENO, words);
+fn complain(stderr: &impl Print, name: &[u8], words: &[u8]) {
+    let _ = stderr.write_all(name);
+    let _ = stderr.write_all(words);
 }
 
 // Writes what waits, and says what failed.
-fn finish(name: &[u8], out: &[u8], s: Session) {
-    let t = flush(out, s);
+fn finish(stdout: &impl Print, stderr: &impl Print, name: &[u8], out: &[u8], s: Session) {
+    let t = flush(stdout, out, s);
     if !t.readable {
-        complain(name, b": cannot read standard input\n");
+        complain(stderr, name, b": cannot read standard input\n");
     }
     if !t.open {
-        complain(name, b": cannot write standard output\n");
+        complain(stderr, name, b": cannot write standard output\n");
     }
 }
 
-fn run(name: &[u8], ram: &mut [u8], marks: &mut [u8], bench: bool, size: u32) {
+fn run(rt: &HostRuntime, name: &[u8], ram: &mut [u8], marks: &mut [u8], bench: bool, size: u32) {
+    let stdout = rt.stdout();
+    let mut stdin = rt.stdin();
     let mut state = [0u16; 1284];
-    let mut out = io::large_buffer();
+    let mut out = [0u8; 65536];
     calls_state::tenonwhisk_make(size, &mut state);
     let place = answers::title(&mut out, 0, name, size);
     let begun = Session {
@@ -506,16 +526,16 @@ fn run(name: &[u8], ram: &mut [u8], marks: &mut [u8], bench: bool, size: u32) {
         open: true,
         readable: true,
     };
-    let s = all_lines(&mut state, ram, marks, &mut out, begun);
-    let t = end(&state, &mut out, s);
-    finish(name, &out, t);
+    let s = all_lines(&mut stdin, &stdout, &mut state, ram, marks, &mut out, begun);
+    let t = end(&stdout, &state, &mut out, s);
+    finish(&stdout, &rt.stderr(), name, &out, t);
 }
 
 // L = 65,536.
-pub fn bench() {
+pub fn bench(rt: &HostRuntime) {
     let mut ram = [0u8; 65536];
     let mut marks = [0u8; 4096];
-    run(b"bench", &mut ram, &mut marks, true, 65536);
+    run(rt, b"bench", &mut ram, &mut marks, true, 65536);
 }
 
 fn is_text(a: &[u8], b: &[u8]) -> bool {
@@ -533,10 +553,10 @@ fn is_text(a: &[u8], b: &[u8]) -> bool {
 }
 
 // The L that the program's argument asks, or 0.
-fn size_asked() -> u32 {
+fn size_asked(rt: &impl Env) -> u32 {
     let mut text = [0u8; 8];
-    let n = os::arg(1, &mut text);
-    if os::arg_count() != 2 {
+    let n = rt.arg(1, &mut text).unwrap_or(0);
+    if !matches!(rt.arg(2, &mut []), Err(FillError::NotPresent)) {
         return 0;
     }
     if is_text(&text[..n], b"65536") {
@@ -548,28 +568,30 @@ fn size_asked() -> u32 {
     0
 }
 
-fn replay_small() {
+fn replay_small(rt: &HostRuntime) {
     let mut ram = [0u8; 65536];
     let mut marks = [0u8; 4096];
-    run(b"replay", &mut ram, &mut marks, false, 65536);
+    run(rt, b"replay", &mut ram, &mut marks, false, 65536);
 }
 
-fn replay_large() {
+fn replay_large(rt: &HostRuntime) {
     let mut ram = [0u8; 524288];
     let mut marks = [0u8; 32768];
-    run(b"replay", &mut ram, &mut marks, false, 524288);
+    run(rt, b"replay", &mut ram, &mut marks, false, 524288);
 }
 
 // L is the program's argument.
-pub fn replay() {
-    let size = size_asked();
+pub fn replay(rt: &HostRuntime) {
+    let size = size_asked(rt);
     if size == 65536 {
-        replay_small();
+        replay_small(rt);
         return;
     }
     if size == 524288 {
-        replay_large();
+        replay_large(rt);
         return;
     }
-    io::write_all(STDERR_FILENO, b"usage: replay 65536 or replay 524288\n");
+    let _ = rt
+        .stderr()
+        .write_all(b"usage: replay 65536 or replay 524288\n");
 }

@@ -1,7 +1,5 @@
 -- The voices that the calls give are in range. Assumes nothing.
-use mathlib.Core.Path.{◌≡◌}
-use Prim.Native.Nat.{ℕ}
-use lib.IntN.{ℤ}
+use Rattle.std.proofs.Common.{◌≡◌, ℕ, ℤ}
 use Rattle.soundram.specs.declared.Reader.{Reader}
 use Rattle.soundram.specs.declared.UnitAddress.{UnitAddress}
 use Rattle.soundram.specs.Address.{Sized}

@@ -2,13 +2,13 @@
 // reference, reference/voice_play.py, which lists the same blocks and plays.
 #![tactic(auto)]
 
-ghost use Rattle.std.specs.Prelude.{◌≡◌, ◌<◌};
+ghost use Rattle.std.specs.Prelude.{◌≡◌, ◌<◌, IfOk};
 ghost use Rattle.gauss.specs.Gauss.{table as factors};
 ghost use Rattle.soundram.specs.Address.{Lent};
 ghost use Rattle.voice.specs.Range.{InRange};
 
-use libc::STDOUT_FILENO;
 use soundram::{ByteAddress, UnitAddress, Watch};
+use std::io;
 use voice::{Settings, Voice};
 
 const SIZE: u32 = 0x10000;
@@ -112,42 +112,48 @@ fn settings(k: usize) -> Settings
     }
 }
 
-fn print_number(n: u64, end: u8) {
-    io::print_decimal(STDOUT_FILENO, n);
-    io::write_all(STDOUT_FILENO, &[end]);
+fn print_number(rt: &impl Print, n: u64, end: u8) -> io::Result<()> {
+    rt.print(n)?;
+    rt.write_all(&[end])
 }
 
-fn print_tick(amplitude: i16, level: u16, ended: bool, doubt: bool) {
+fn print_tick(
+    rt: &impl Print,
+    amplitude: i16,
+    level: u16,
+    ended: bool,
+    doubt: bool,
+) -> io::Result<()> {
     let bits = fixed::to_bits(amplitude) as u64;
     if bits < 0x8000 {
-        print_number(bits, b' ');
+        print_number(rt, bits, b' ')?;
     } else {
-        io::write_all(STDOUT_FILENO, b"-");
-        print_number(0x10000 - bits, b' ');
+        rt.write_all(b"-")?;
+        print_number(rt, 0x10000 - bits, b' ')?;
     }
-    print_number(level as u64, b' ');
-    print_number(ended as u64, b' ');
-    print_number(doubt as u64, b'\n');
+    print_number(rt, level as u64, b' ')?;
+    print_number(rt, ended as u64, b' ')?;
+    print_number(rt, doubt as u64, b'\n')
 }
 
-fn print_name(k: usize) {
-    io::write_all(STDOUT_FILENO, b"play ");
+fn print_name(rt: &impl Print, k: usize) -> io::Result<()> {
+    rt.write_all(b"play ")?;
     match k {
-        0 => io::write_all(STDOUT_FILENO, b"one_shot\n"),
-        1 => io::write_all(STDOUT_FILENO, b"loop\n"),
-        2 => io::write_all(STDOUT_FILENO, b"wrapped\n"),
-        3 => io::write_all(STDOUT_FILENO, b"pitch_0\n"),
-        4 => io::write_all(STDOUT_FILENO, b"pitch_3fff\n"),
-        5 => io::write_all(STDOUT_FILENO, b"pitch_4000\n"),
-        6 => io::write_all(STDOUT_FILENO, b"pitch_4001\n"),
-        7 => io::write_all(STDOUT_FILENO, b"modulated\n"),
-        8 => io::write_all(STDOUT_FILENO, b"glitch\n"),
-        9 => io::write_all(STDOUT_FILENO, b"noise\n"),
-        10 => io::write_all(STDOUT_FILENO, b"filters\n"),
-        11 => io::write_all(STDOUT_FILENO, b"release\n"),
-        12 => io::write_all(STDOUT_FILENO, b"unloaded\n"),
-        _ => io::write_all(STDOUT_FILENO, b"runs_out\n"),
-    };
+        0 => rt.write_all(b"one_shot\n"),
+        1 => rt.write_all(b"loop\n"),
+        2 => rt.write_all(b"wrapped\n"),
+        3 => rt.write_all(b"pitch_0\n"),
+        4 => rt.write_all(b"pitch_3fff\n"),
+        5 => rt.write_all(b"pitch_4000\n"),
+        6 => rt.write_all(b"pitch_4001\n"),
+        7 => rt.write_all(b"modulated\n"),
+        8 => rt.write_all(b"glitch\n"),
+        9 => rt.write_all(b"noise\n"),
+        10 => rt.write_all(b"filters\n"),
+        11 => rt.write_all(b"release\n"),
+        12 => rt.write_all(b"unloaded\n"),
+        _ => rt.write_all(b"runs_out\n"),
+    }
 }
 
 // The amplitude of the voice below in tick t, and the noise level.
@@ -188,6 +194,7 @@ fn keyed(v: Voice, s: Settings, k: usize, t: u32) -> Voice
 
 // Tick t, and its line.
 fn tick(
+    rt: &impl Print,
     table: &[i16; 512],
     v: Voice,
     w: Watch,
@@ -195,49 +202,74 @@ fn tick(
     t: u32,
     ram: &[u8],
     marks: &[u8],
-) -> Played
+) -> io::Result<Played>
     requires { (table.now ≡ factors) × Lent 0x10000 ram.now marks.now × InRange 0x10000 v }
-    ensures { InRange 0x10000 result.voice }
+    ensures { IfOk result (λ p. InRange 0x10000 p.voice) }
 {
     let r = voice_tick::tick(table, v, 0, SIZE, s, below(t), noise(t), ram, marks, w);
     let voice = r.voice;
     let watch = r.watch;
-    print_tick(r.amplitude, voice.envelope.level, voice.ended, watch.doubt);
-    Played { voice, watch }
+    print_tick(
+        rt,
+        r.amplitude,
+        voice.envelope.level,
+        voice.ended,
+        watch.doubt,
+    )?;
+    Ok(Played { voice, watch })
 }
 
 // Tick t of play k.
-fn turn(table: &[i16; 512], p: Played, k: usize, t: u32, ram: &[u8], marks: &[u8]) -> Played
+fn turn(
+    rt: &impl Print,
+    table: &[i16; 512],
+    p: Played,
+    k: usize,
+    t: u32,
+    ram: &[u8],
+    marks: &[u8],
+) -> io::Result<Played>
     requires { (table.now ≡ factors) × Lent 0x10000 ram.now marks.now × InRange 0x10000 p.voice × (k < 14) }
-    ensures { InRange 0x10000 result.voice }
+    ensures { IfOk result (λ q. InRange 0x10000 q.voice) }
 {
     let s = settings(k);
-    tick(table, keyed(p.voice, s, k, t), p.watch, s, t, ram, marks)
+    tick(
+        rt,
+        table,
+        keyed(p.voice, s, k, t),
+        p.watch,
+        s,
+        t,
+        ram,
+        marks,
+    )
 }
 
-fn play(table: &[i16; 512], ram: &[u8], marks: &[u8], k: usize)
+fn play(rt: &impl Print, table: &[i16; 512], ram: &[u8], marks: &[u8], k: usize) -> io::Result<()>
     requires { (table.now ≡ factors) × Lent 0x10000 ram.now marks.now × (k < 14) }
 {
-    print_name(k);
+    print_name(rt, k)?;
     let mut p = start(k);
     let ticks = ticks_of(k);
     for t in 0..ticks {
-        p = turn(table, p, k, t, ram, marks);
+        p = turn(rt, table, p, k, t, ram, marks)?;
     }
+    Ok(())
 }
 
-fn plays(table: &[i16; 512], ram: &[u8], marks: &[u8])
+fn plays(rt: &impl Print, table: &[i16; 512], ram: &[u8], marks: &[u8]) -> io::Result<()>
     requires { (table.now ≡ factors) × Lent 0x10000 ram.now marks.now }
 {
     for k in 0..14usize {
-        play(table, ram, marks, k);
+        play(rt, table, ram, marks, k)?;
     }
+    Ok(())
 }
 
-fn main() {
+fn main(rt: HostRuntime) -> io::Result<()> {
     let mut ram = [0u8; 65536];
     let mut marks = [0u8; 4096];
     put_blocks(&mut ram, &mut marks);
     let table = gauss::table();
-    plays(&table, &ram, &marks);
+    plays(&rt, &table, &ram, &marks)
 }

@@ -2,7 +2,9 @@
 // output is an outside decoder's. Then answers the cases of edges.xa, which reference/xa_edges.py makes and answers.
 #![tactic(auto)]
 
-use libc::STDOUT_FILENO;
+use std::io::Read;
+use std::rt::Files;
+use std::{fs, io};
 use xa::Histories;
 
 // 's' for a stereo sector.
@@ -17,50 +19,52 @@ const KEPT: i16 = -0x5A5B;
 
 // ---- output
 
-fn print_number(x: i16, end: u8) {
+fn print_number(rt: &impl Print, x: i16, end: u8) -> io::Result<()> {
     let bits = fixed::to_bits(x) as u64;
     if bits < 0x8000 {
-        io::print_decimal(STDOUT_FILENO, bits);
+        rt.print(bits)?;
     } else {
-        io::write_all(STDOUT_FILENO, b"-");
-        io::print_decimal(STDOUT_FILENO, 0x10000 - bits);
+        rt.write_all(b"-")?;
+        rt.print(0x10000 - bits)?;
     }
-    io::write_all(STDOUT_FILENO, &[end]);
+    rt.write_all(&[end])
 }
 
-fn print_samples(samples: &[i16]) {
+fn print_samples(rt: &impl Print, samples: &[i16]) -> io::Result<()> {
     for i in 0..samples.len() {
-        print_number(samples[i], if i % 224 == 223 { b'\n' } else { b' ' });
+        print_number(rt, samples[i], if i % 224 == 223 { b'\n' } else { b' ' })?;
     }
+    Ok(())
 }
 
-fn print_histories(h: Histories) {
-    print_number(h.left.old, b' ');
-    print_number(h.left.older, b' ');
-    print_number(h.right.old, b' ');
-    print_number(h.right.older, b' ');
-    print_number(h.mono.old, b' ');
-    print_number(h.mono.older, b'\n');
+fn print_histories(rt: &impl Print, h: Histories) -> io::Result<()> {
+    print_number(rt, h.left.old, b' ')?;
+    print_number(rt, h.left.older, b' ')?;
+    print_number(rt, h.right.old, b' ')?;
+    print_number(rt, h.right.older, b' ')?;
+    print_number(rt, h.mono.old, b' ')?;
+    print_number(rt, h.mono.older, b'\n')
 }
 
 // ---- the sectors of an outside decoder
 
-fn decode_sectors(fd: i32) {
+fn decode_sectors(rt: &impl Print, file: &mut impl Read) -> io::Result<()> {
     let mut histories = xa::fresh();
     for i in 0..12usize {
         let mut sector = [0u8; 2304];
-        io::read_full(fd, &mut sector);
+        file.read_exact(&mut sector)?;
         let stereo = SECTORS[i] == b's';
         if stereo {
-            io::write_all(STDOUT_FILENO, b"stereo\n");
+            rt.write_all(b"stereo\n")?;
         } else {
-            io::write_all(STDOUT_FILENO, b"mono\n");
+            rt.write_all(b"mono\n")?;
         }
         let mut out = [0i16; 4032];
         let decoded = xa::decode(&sector, stereo, false, histories, &mut out);
-        print_samples(&out);
+        print_samples(rt, &out)?;
         histories = decoded.histories;
     }
+    Ok(())
 }
 
 // ---- the edges
@@ -74,47 +78,52 @@ fn is_kept(out: &[i16]) -> bool {
     true
 }
 
-fn print_answer(number: u8, histories: Histories, out: &[i16]) {
-    io::print_decimal(STDOUT_FILENO, number as u64);
-    io::write_all(STDOUT_FILENO, b" ");
-    print_histories(histories);
+fn print_answer(rt: &impl Print, number: u8, histories: Histories, out: &[i16]) -> io::Result<()> {
+    rt.print(number)?;
+    rt.write_all(b" ")?;
+    print_histories(rt, histories)?;
     if number == 0 {
-        print_samples(out);
-        return;
+        return print_samples(rt, out);
     }
     if is_kept(out) {
-        io::write_all(STDOUT_FILENO, b"kept\n");
-        return;
+        return rt.write_all(b"kept\n");
     }
-    io::write_all(STDOUT_FILENO, b"changed\n");
+    rt.write_all(b"changed\n")
 }
 
 fn answer_call(
+    rt: &impl Print,
     sector: &[u8],
     stereo: bool,
     eight_bit: bool,
     histories: Histories,
     out: &mut [i16],
-) -> Histories {
+) -> io::Result<Histories> {
     let decoded = xa::decode(sector, stereo, eight_bit, histories, out);
     let after = decoded.histories;
-    print_answer(decoded.number, after, out);
-    after
+    print_answer(rt, decoded.number, after, out)?;
+    Ok(after)
 }
 
 // A case is its flags (bit 0 stereo, bit 1 8-bit), the lengths of sector and output, and room for a sector of 2,305 bytes.
-fn answer_case(case: &[u8], out: &mut [i16], histories: Histories) -> Histories {
+fn answer_case(
+    rt: &impl Print,
+    case: &[u8],
+    out: &mut [i16],
+    histories: Histories,
+) -> io::Result<Histories> {
     if case.len() < CASE_BYTES {
-        return histories;
+        return Ok(histories);
     }
     if out.len() < 4033 {
-        return histories;
+        return Ok(histories);
     }
     let stereo = case[0] % 2 == 1;
     let eight_bit = case[0] / 2 % 2 == 1;
     let bytes = little_endian::half_at(case, 1) as usize % 2306;
     let samples = little_endian::half_at(case, 3) as usize % 4034;
     answer_call(
+        rt,
         &case[5..5 + bytes],
         stereo,
         eight_bit,
@@ -123,33 +132,36 @@ fn answer_case(case: &[u8], out: &mut [i16], histories: Histories) -> Histories 
     )
 }
 
-fn answer_cases(fd: i32) {
+fn answer_cases(rt: &impl Print, file: &mut impl Read) -> io::Result<()> {
     let mut histories = xa::fresh();
     for _ in 0..CASES {
         let mut case = [0u8; CASE_BYTES];
-        io::read_full(fd, &mut case);
+        file.read_exact(&mut case)?;
         let mut out = [KEPT; 4033];
-        histories = answer_case(&case, &mut out, histories);
+        histories = answer_case(rt, &case, &mut out, histories)?;
     }
+    Ok(())
 }
 
 // ---- the files
 
-fn open(path: &[u8]) -> i32 {
-    let fd = os::open_read(path);
-    if fd < 0 {
-        os::fail(path);
+// Says on standard error why a file does not open.
+fn open<R: Files + Eprint>(rt: &R, path: &str) -> io::Result<Option<R::File>> {
+    match fs::open(rt, path) {
+        Ok(file) => Ok(Some(file)),
+        Err(e) => {
+            eprintln!(rt; "{path}: {e}")?;
+            Ok(None)
+        }
     }
-    fd
 }
 
-fn main() {
-    let sectors = open(b"xa.xa");
-    let edges = open(b"edges.xa");
-    if (0 <= sectors) & (0 <= edges) {
-        decode_sectors(sectors);
-        answer_cases(edges);
-        libc::close(sectors);
-        libc::close(edges);
+fn main(rt: HostRuntime) -> io::Result<()> {
+    let sectors = open(&rt, "xa.xa")?;
+    let edges = open(&rt, "edges.xa")?;
+    if let (Some(mut sectors), Some(mut edges)) = (sectors, edges) {
+        decode_sectors(&rt, &mut sectors)?;
+        answer_cases(&rt, &mut edges)?;
     }
+    Ok(())
 }
