@@ -16,6 +16,8 @@ import sys
 DECLARED = re.compile(r"^\s*(?:(?:abbrev|unfoldable)\s+)?(?:pub\s+)?(?:ruleset\s+)?((?!λ)[^\s:{}()\[\]|]+)\s+(?:\{[^}]*\}\s*|\([^)]*\)\s*)*:(?:\s|$)")
 TOKEN = re.compile(r"[^\s(){}\[\];,.`\"]+")
 USE = re.compile(r"^\s*(?:pub\s+)?(?:ghost\s+)?use\s+([^{};]*?)\.?\{([^}]*)\}", re.M)
+# fields of records, which are also turned after a dot
+FIELDS = {"length-is", "marks-size", "out-is", "ram-size", "wet-left", "wet-right"}
 # lemmas that already have the name of a function
 LEMMAS = {"entry_in", "half_at", "kept_in", "past_end", "put_one", "signed_part"}
 OURS = re.compile(r"Rattle\.(\w+)\.(?:specs|proofs)")
@@ -110,7 +112,7 @@ def main():
             word = m.group(0)
             if word not in names_here or word in keep or word in LEMMAS and not path.endswith(".antt"):
                 return word
-            if m.start() > 0 and text[m.start() - 1] == "." and not re.search(r"(?:\bspu|\bnoise|\bvoice|\benvelope|\bcalls|\bnumbers)\.$", text[:m.start()]):
+            if m.start() > 0 and text[m.start() - 1] == "." and word not in FIELDS and not re.search(r"(?:\bspu|\bnoise|\bvoice|\benvelope|\bcalls|\bnumbers)\.$", text[:m.start()]):
                 return word
             return names_here[word]
 

@@ -86,10 +86,10 @@ module _ (ls : Lists) (body out : List ℕ) where
 
   -- the whole buffer, and the part of it that was written
   pub buffer_back : (written_of ls body out).number ≡ 0 → ReadBack ls bank (written_of ls body out).out
-  buffer_back e = let a = accepted e in subst (ReadBack ls bank) (sym a.out-is) (back (drop (length bank) out) a.writable)
+  buffer_back e = let a = accepted e in subst (ReadBack ls bank) (sym a.out_is) (back (drop (length bank) out) a.writable)
 
   pub written_back : (written_of ls body out).number ≡ 0 → ReadBack ls bank (take (written_of ls body out).length (written_of ls body out).out)
   written_back e =
       let a = accepted e in
-      let q : take (written_of ls body out).length (written_of ls body out).out ≡ bank = rw (a.length-is, a.out-is) (take-append_seam bank (drop (length bank) out)) in
+      let q : take (written_of ls body out).length (written_of ls body out).out ≡ bank = rw (a.length_is, a.out_is) (take-append_seam bank (drop (length bank) out)) in
       subst (ReadBack ls bank) (append-nil bank ∙ sym q) (back [] a.writable)

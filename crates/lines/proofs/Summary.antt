@@ -86,7 +86,7 @@ something_runs b bs e = omega (arith, e)
 at_end : (c : Bool) (fs : List (List ℕ)) (run : List ℕ) → ended_of (line_at c fs run) ≡ line_at c (fs ++ flush run []) []
 at_end c fs [] = sym (ended_same (line_at c fs []) nothing_runs) ∙ rw (append-nil fs)
 at_end c fs (b ∷ bs) =
-    sym (ended_joined (line_at c fs (b ∷ bs)) (something_runs b bs) refl) ∙ line_joined true c (map field_of fs) (field_of (b ∷ bs)) ∙ rw (map-append, field_none)
+    sym (ended_joined (line_at c fs (b ∷ bs)) (something_runs b bs) refl) ∙ line_joined true c (map field_of fs) (field_of (b ∷ bs)) ∙ rw (map-append field_of fs ((b ∷ bs) ∷ []), field_none)
 
 begun_before : (c : Bool) (fs : List (List ℕ)) (run : List ℕ) (b : ℕ) → begun_of (line_at c fs run) b ≡ line_at c fs run
 unfolding begun_of

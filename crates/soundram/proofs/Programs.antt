@@ -83,12 +83,12 @@ latch_is (read who c h k) m =
     let xs : List Access = trace (k (half m.ram h)) (after_read c h m) in
     latch_is (k (half m.ram h)) (after_read c h m)
     ∙ or_assoc m.watch.latch (m.watch.armed && eqb m.watch.halfword h) (touches (reading c h m.marks m.watch) xs)
-    ∙ ap (λ (b : Bool). m.watch.latch || ((m.watch.armed && eqb m.watch.halfword h) || b)) (touches_kept _ m.watch xs refl refl)
+    ∙ ap (λ (b : Bool). m.watch.latch || ((m.watch.armed && eqb m.watch.halfword h) || b)) (touches_kept (after_read c h m).watch m.watch xs refl refl)
 latch_is (write h v p) m =
     let xs : List Access = trace p (after_write h v m) in
     latch_is p (after_write h v m)
     ∙ or_assoc m.watch.latch (m.watch.armed && eqb m.watch.halfword h) (touches (writing h m.watch) xs)
-    ∙ ap (λ (b : Bool). m.watch.latch || ((m.watch.armed && eqb m.watch.halfword h) || b)) (touches_kept _ m.watch xs refl refl)
+    ∙ ap (λ (b : Bool). m.watch.latch || ((m.watch.armed && eqb m.watch.halfword h) || b)) (touches_kept (after_write h v m).watch m.watch xs refl refl)
 
 -- ---- how a function is shown to do its program
 
@@ -210,7 +210,7 @@ reads_marks (reads_on k) m = reads_marks (k _) _
 pub lent_after : {A : Type 0} {p : Prog A} {size : ℕ} {m n : Mem} {a : A} → Does p m a n → Lent size m.ram m.marks → Lent size n.ram n.marks
 lent_after d l =
     let k = does_kept d in
-    record { ram_size = k.ram ∙ l.ram-size; marks_size = ap (λ (x : ℕ). x * 16) k.marks ∙ l.marks-size; sized = l.sized }
+    record { ram_size = k.ram ∙ l.ram_size; marks_size = ap (λ (x : ℕ). x * 16) k.marks ∙ l.marks_size; sized = l.sized }
 
 pub within : {size : ℕ} {ram marks : List ℕ} {a : ByteAddress} → Lent size ram marks → a.0 < size → Within ram marks a
 within l h = record { below = omega arith; marks_size = omega arith }

@@ -97,8 +97,8 @@ module _ (cd : List ℤ) (t : Times State) (range : InRange t.state) (lent : Len
   tick_accepted k j =
       let z = ap (λ (c : Choices). c.size) (after_choices k) in
       let d = lent.sized.sixteens in
-      let a : length (after k).ram ≡ (after k).state.choices.size = times_ram chip (tick_into cd) k t ∙ lent.ram-size ∙ sym z in
-      let b : length (after k).marks ≡ (after k).state.choices.size / 16 = rw (z, times_marks chip (tick_into cd) k t) (omega (arith, lent.marks-size)) in
+      let a : length (after k).ram ≡ (after k).state.choices.size = times_ram chip (tick_into cd) k t ∙ lent.ram_size ∙ sym z in
+      let b : length (after k).marks ≡ (after k).state.choices.size / 16 = rw (z, times_marks chip (tick_into cd) k t) (omega (arith, lent.marks_size)) in
       rw (eq-eqb _ _ a, eq-eqb _ _ b, passes (after k).state (after_range k))
 
   ticks_same : (k : ℕ) → after k ≡ gathered (log chip (calls_of cd k) t.state t.ram t.marks) 0 t

@@ -61,7 +61,7 @@ filled_none regs v l =
 
 pub filled_end : {regs : List ℕ} {v : List ℤ} {n : ℕ} → Filled regs v n → 24 ≤ n → Volumes regs v
 filled_end f h =
-    record { left = λ k p. f.left k (omega arith); right = λ k p. f.right k (omega arith); wet_left = λ k p. f.wet-left k (omega arith); wet_right = λ k p. f.wet-right k (omega arith) }
+    record { left = λ k p. f.left k (omega arith); right = λ k p. f.right k (omega arith); wet_left = λ k p. f.wet_left k (omega arith); wet_right = λ k p. f.wet_right k (omega arith) }
 
 module _ (v : List ℤ) (n : ℕ) (a b c d : ℤ) (len : length v ≡ 96) (h : n < 24) where
   abbrev two : List ℤ
@@ -119,10 +119,10 @@ filled_more regs v n {a} {b} {c} {d} f h ea eb ec ed =
           (λ k p. four_other v n a b c d l h (k + 24) (λ e. omega arith) (λ e. omega arith) (λ e. omega arith) (λ e. omega arith) ∙ f.right k p)
           (four_b v n a b c d l h ∙ eb);
       wet_left = below_more (λ (k : ℕ). get_or (four v n a b c d l h) (k + 48) (pos 0) ≡ cond (flag_of regs 0x198 k) (volume_of (of_voice regs k 0)) (pos 0)) n
-          (λ k p. four_other v n a b c d l h (k + 48) (λ e. omega arith) (λ e. omega arith) (λ e. omega arith) (λ e. omega arith) ∙ f.wet-left k p)
+          (λ k p. four_other v n a b c d l h (k + 48) (λ e. omega arith) (λ e. omega arith) (λ e. omega arith) (λ e. omega arith) ∙ f.wet_left k p)
           (four_c v n a b c d l h ∙ ec);
       wet_right = below_more (λ (k : ℕ). get_or (four v n a b c d l h) (k + 72) (pos 0) ≡ cond (flag_of regs 0x198 k) (volume_of (of_voice regs k 2)) (pos 0)) n
-          (λ k p. four_other v n a b c d l h (k + 72) (λ e. omega arith) (λ e. omega arith) (λ e. omega arith) (λ e. omega arith) ∙ f.wet-right k p)
+          (λ k p. four_other v n a b c d l h (k + 72) (λ e. omega arith) (λ e. omega arith) (λ e. omega arith) (λ e. omega arith) ∙ f.wet_right k p)
           (four_d v n a b c d l h ∙ ed);
     }
 
@@ -164,7 +164,7 @@ module _ (regs : List ℕ) (v hs : List ℤ) (n : ℕ) {a : ℤ} (f : Volumes re
   unfolding mixed_of added_of shares_of sides_of side_of
   mixed_wet e q j =
       let k : n + 48 + 24 ≡ n + 72 = omega arith in
-      rw (add-one n, j, e, q, k, f.wet-left n l, f.wet-right n l, gated_shares (flag_of regs 0x198 n) a (volume_of (of_voice regs n 0)) (volume_of (of_voice regs n 2)), p)
+      rw (add-one n, j, e, q, k, f.wet_left n l, f.wet_right n l, gated_shares (flag_of regs 0x198 n) a (volume_of (of_voice regs n 0)) (volume_of (of_voice regs n 2)), p)
 
 -- x, y and z are the amplitudes as they are kept
 pub mixed_all : (regs : List ℕ) (hs : List ℤ) (n : ℕ) {d w : Sides} {x y z : ℤ} → d ≡ (mixed_of regs hs n).dry → w ≡ (mixed_of regs hs n).wet → n ≤ 24 → 24 ≤ n

@@ -13,7 +13,7 @@ block-at-requires : tie.Need-block-at-requires
 block-at-requires c κs =
     let z = c.before.before.before.before.before.before.before in
     let e : z.args.a.0 % 16 ≡ 0 = eqb-true _ _ (and_first (eqb (z.args.a.0 % 16) 0) _ c.before.if1.true) in
-    omega (arith, e, z.requires.0.sized.sixteens, z.requires.0.ram-size, z.requires.1)
+    omega (arith, e, z.requires.0.sized.sixteens, z.requires.0.ram_size, z.requires.1)
 
 returns : tie.Need-returns
 returns c =

@@ -63,10 +63,10 @@ same_length : tie.Need-same-length invariant-loop decreases-loop
 same_length c = let p = c.before.before.before.before.before.before.loop.invariant in let z = c.before.before.before.before.before.before.before.before.before.before.before.before.before.before.before.before.before.before.before.before.before.before.before.before.before.before in c.before.before.end.ensures.formed.size ∙ sym z.requires.0.size
 
 same-length-2 : tie.Need-same-length-2 invariant-loop decreases-loop
-same-length-2 c = let p = c.before.before.before.before.before.before.loop.invariant in let z = c.before.before.before.before.before.before.before.before.before.before.before.before.before.before.before.before.before.before.before.before.before.before.before.before.before.before in p.lent.ram-size ∙ sym z.requires.2.ram-size
+same-length-2 c = let p = c.before.before.before.before.before.before.loop.invariant in let z = c.before.before.before.before.before.before.before.before.before.before.before.before.before.before.before.before.before.before.before.before.before.before.before.before.before.before in p.lent.ram_size ∙ sym z.requires.2.ram_size
 
 same-length-3 : tie.Need-same-length-3 invariant-loop decreases-loop
-same-length-3 c = let p = c.before.before.before.before.before.before.loop.invariant in let z = c.before.before.before.before.before.before.before.before.before.before.before.before.before.before.before.before.before.before.before.before.before.before.before.before.before.before in (omega (arith, p.lent.marks-size, z.requires.2.marks-size))
+same-length-3 c = let p = c.before.before.before.before.before.before.loop.invariant in let z = c.before.before.before.before.before.before.before.before.before.before.before.before.before.before.before.before.before.before.before.before.before.before.before.before.before.before in (omega (arith, p.lent.marks_size, z.requires.2.marks_size))
 
 same-length-4 : tie.Need-same-length-4 invariant-loop decreases-loop
 same-length-4 c = c.before.before.before.before.before.before.loop.invariant.len
