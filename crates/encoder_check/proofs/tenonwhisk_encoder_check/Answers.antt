@@ -2,10 +2,10 @@ use Rattle.encoder_check.proofs.Laws.{answer_as}
 use Rattle.encoder_check.proofs.tenonwhisk_encoder_check.Goals as goal
 
 pub returns-in-Yes : goal.returns-in-Yes
-returns-in-Yes c = answer_as c.check-verdict.ensures c.enum_told-1.given.1
+returns-in-Yes c = answer_as c.check-verdict.ensures c.in-Yes.is
 
 pub returns-in-No : goal.returns-in-No
-returns-in-No c = answer_as c.check-verdict.ensures c.verdict-1.given.1
+returns-in-No c = answer_as c.check-verdict.ensures c.in-No.is
 
 pub returns-in-Refused : goal.returns-in-Refused
-returns-in-Refused c = answer_as c.check-verdict.ensures c.enum_told-in-Refused-1.given.1
+returns-in-Refused c = answer_as c.check-verdict.ensures c.in-Refused.is

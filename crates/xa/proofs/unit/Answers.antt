@@ -6,7 +6,7 @@ use Rattle.fixed.proofs.Number.{passed, passed_in}
 use Rattle.xa.proofs.Laws.{part_none, part_more, part_all, header_shift, header_filter, nibble_below, step_below}
 use Rattle.xa.proofs.unit.Goals as goal
 
-within : (c : goal.After-sample-x invariant-loop decreases-loop)
+within : (c : goal.After-sample-x)
     → c.loop-j.j * c.args.step ≤ 27 * c.args.step
 within c = step_below c.loop-j.j 27 c.args.step (omega arith)
 

@@ -1,0 +1,5 @@
+use Rattle.voices.proofs.Settings.{settings_by_as}
+use Rattle.voices.proofs.settings_by.Goals as goal
+
+pub returns : goal.returns
+returns c = search settings_by_as
