@@ -1,3 +1,4 @@
+use mir.Syntax.{w16}
 use Prim.Native.Nat.{◌-◌}
 use mathlib.Core.Path.{ap, ◌∙◌}
 use mir.Facts.{to_z-of_z}
@@ -8,7 +9,7 @@ use Rattle.calls_ticks.proofs.to_floats.Goals as goal
 
 pub loop-i-preserved : goal.loop-i-preserved
 loop-i-preserved c =
-    (search rules, search rules, floats_more c.args.out.now c.loop-i.i c.loop-i.floats (search rules) c.loop-i.invariant.1 c.loop-i.invariant.2 (c.to_float.ensures.0 ∙ ap float_of (to_z-of_z (search (rules, c.to_float-arg-1.given)))))
+    (search rules, search rules, floats_more c.args.out.now c.loop-i.i c.loop-i.floats (search rules) c.loop-i.invariant.1 c.loop-i.invariant.2 (c.to_float.ensures.0 ∙ ap float_of (to_z-of_z {w = w16} (search (rules, c.to_float-arg-1.given)))))
 
 pub returns : goal.returns
-returns c =    floats_all c.args.out.now c.loop-i.i c.loop-i.invariant.1 c.loop-i.invariant.2 (search rules)
+returns c = floats_all c.args.out.now c.loop-i.i c.loop-i.invariant.1 c.loop-i.invariant.2 (search rules)
