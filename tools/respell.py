@@ -4,7 +4,7 @@
 usage: python3 tools/respell.py          once, at the top, after /opt/rattle/port/port.py
        python3 tools/respell.py --list   prints each name, old and new, and changes nothing
 
-Words are in snake case: `loopedOf` becomes `looped_of`, `run-is-log` becomes `run_is_log`, and a prime is `'`. Types and modules keep their
+Words are in snake case, those that an import gives a name too: `loopedOf` becomes `looped_of`, `run-is-log` becomes `run_is_log`, and a prime is `'`. Types and modules keep their
 spelling, and so do functions, fields and files of src/, names that come from a library, strings, and the labels that Rattle gives to goals.
 A lemma that would have its function's name gets `_lem`. The script stops, and changes nothing, where two names of one file would fall together.
 """
@@ -16,6 +16,8 @@ import sys
 DECLARED = re.compile(r"^\s*(?:(?:abbrev|unfoldable)\s+)?(?:pub\s+)?(?:ruleset\s+)?((?!λ)[^\s:{}()\[\]|]+)\s+(?:\{[^}]*\}\s*|\([^)]*\)\s*)*:(?:\s|$)")
 TOKEN = re.compile(r"[^\s(){}\[\];,.`\"]+")
 USE = re.compile(r"^\s*(?:pub\s+)?(?:ghost\s+)?use\s+([^{};]*?)\.?\{([^}]*)\}", re.M)
+# a name of an import whose plain form is taken
+WORDS = {"markedAt": "is_marked_at"}
 # fields of records, which are also turned after a dot
 FIELDS = {"length-is", "marks-size", "out-is", "ram-size", "wet-left", "wet-right"}
 # lemmas that already have the name of a function
@@ -75,10 +77,13 @@ def main():
     names = set()
     for path in laws:
         names |= {name for name in declared(path) if name[0].islower()}
+    for path in laws + proofs + sources:
+        for _, items in USE.findall(read(path)):
+            names |= {item.split(" as ")[1].strip() for item in items.split(",") if " as " in item and item.split(" as ")[1].strip()[0].islower()}
     new = {}
     taken = {name for name in names if snake(name) == name}
     for name in sorted(names - taken, key=lambda n: ("-" in n, n)):
-        to = snake(name)
+        to = WORDS.get(name, snake(name))
         if to in taken and to in LEMMAS:
             new[to] = to + "_lem"
         elif to in taken:

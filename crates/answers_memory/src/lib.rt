@@ -2,7 +2,7 @@
 #![tactic(auto)]
 
 ghost use Rattle.std.specs.Prelude.{◌≡◌, ◌+◌, ◌<◌, ◌/◌, ◌^◌, length, get_or};
-ghost use Rattle.soundram.specs.Memory.{marked as markedAt};
+ghost use Rattle.soundram.specs.Memory.{marked as is_marked_at};
 ghost use Rattle.text.specs.Text.{Prints};
 ghost use Rattle.answers.specs.Answer.{halfwords_from, halfwords_end, outward_text, bytes_from, bytes_end, view_text, ram_text, marks_from, marks_end, marks_text};
 
@@ -97,7 +97,7 @@ pub fn ram(out: &mut [u8], place: usize, address: u32, n: u32, values: &[u8]) ->
 }
 
 fn marked(marks: &[u8], h: usize) -> bool
-    ensures { result ≡ markedAt marks.now h }
+    ensures { result ≡ is_marked_at marks.now h }
 {
     (byte_at(marks, h / 8) >> (h % 8)) % 2 == 1
 }

@@ -2,7 +2,7 @@
 #![tactic(auto)]
 
 ghost use Rattle.std.specs.Prelude.{◌≡◌, true, ◌+◌, ◌*◌, ◌≤◌, ◌<◌, length};
-ghost use Rattle.bank.specs.Bank.{count_of, place_of, header_end, entry_at, is_header, is_sound as isSoundOf, is_alias as isAliasOf, is_entry as isEntryOf, damage_of, is_good as isGoodOf, sound_of, found_in, found_of, lookup_of, nothing as nothingOf, fields_of};
+ghost use Rattle.bank.specs.Bank.{count_of, place_of, header_end, entry_at, is_header, is_sound as is_sound_of, is_alias as is_alias_of, is_entry as is_entry_of, damage_of, is_good as is_good_of, sound_of, found_in, found_of, lookup_of, nothing as nothing_of, fields_of};
 
 use little_endian::{half_at, word_at};
 
@@ -82,7 +82,7 @@ fn entry_at(bank: &[u8], n: usize) -> Entry
 }
 
 fn is_sound(end: usize, size: usize, e: Entry) -> bool
-    ensures { result ≡ isSoundOf end size e }
+    ensures { result ≡ is_sound_of end size e }
 {
     let offset = e.offset as usize;
     let count = e.count as usize;
@@ -91,14 +91,14 @@ fn is_sound(end: usize, size: usize, e: Entry) -> bool
 }
 
 fn is_alias(n: usize, e: Entry) -> bool
-    ensures { result ≡ isAliasOf n e }
+    ensures { result ≡ is_alias_of n e }
 {
     (e.kind == 1) & (((e.offset as usize) < n) & (e.count == 0))
 }
 
 // Whether entry n is good in a file of `size` bytes whose header ends at `end`.
 pub fn is_entry(end: usize, size: usize, n: usize, e: Entry) -> bool
-    ensures { result ≡ isEntryOf end size n e }
+    ensures { result ≡ is_entry_of end size n e }
 {
     is_sound(end, size, e) | is_alias(n, e)
 }
@@ -125,7 +125,7 @@ pub fn check(bank: &[u8]) -> Damage
 }
 
 fn is_good(bank: &[u8]) -> bool
-    ensures { result ≡ isGoodOf bank.now }
+    ensures { result ≡ is_good_of bank.now }
 {
     let d = check(bank);
     match d {
@@ -167,7 +167,7 @@ pub fn read_entry(bank: &[u8], n: u32) -> Fields
 
 // The sound that entry n is, or leads to by its aliases.
 fn sound_of(bank: &[u8], n: u32) -> u32
-    requires { (isGoodOf bank.now ≡ true) × (n < count_of bank.now) }
+    requires { (is_good_of bank.now ≡ true) × (n < count_of bank.now) }
     ensures { result ≡ sound_of (entry_at bank.now) n }
 {
     let e = entry_at(bank, n as usize);
@@ -178,7 +178,7 @@ fn sound_of(bank: &[u8], n: u32) -> u32
 }
 
 fn nothing(number: u8) -> Found
-    ensures { result ≡ nothingOf number }
+    ensures { result ≡ nothing_of number }
 {
     Found {
         number,
@@ -190,7 +190,7 @@ fn nothing(number: u8) -> Found
 }
 
 fn find_in(house: bool, bank: &[u8], n: u32) -> Found
-    requires { (isGoodOf bank.now ≡ true) × (n < count_of bank.now) }
+    requires { (is_good_of bank.now ≡ true) × (n < count_of bank.now) }
     ensures { result ≡ found_in house bank.now n }
 {
     let entry = sound_of(bank, n);

@@ -3,7 +3,7 @@
 #![tactic(auto)]
 
 ghost use Rattle.std.specs.Prelude.{◌≡◌, ◌≤◌};
-ghost use Rattle.commands.specs.Command.{ranged as rangedOf, ram_of, marks_of, fill_of};
+ghost use Rattle.commands.specs.Command.{ranged as ranged_of, ram_of, marks_of, fill_of};
 
 use commands::Command;
 use lines::Line;
@@ -11,7 +11,7 @@ use lines::Line;
 // Whether the first two fields after the command are a range of units within sound RAM.
 fn ranged(size: u64, unit: u64, least: u64, most: u64, l: Line) -> bool
     requires { (unit ≤ 2) × (most ≤ 0x80000) }
-    ensures { result ≡ rangedOf size unit least most l }
+    ensures { result ≡ ranged_of size unit least most l }
 {
     let fields = l.fields;
     let a = fields[1];

@@ -11,7 +11,7 @@ use Rattle.envelope.specs.declared.Phase.TheVariants.{Attack, Decay, Sustain}
 use Rattle.envelope.specs.declared.Envelope.{Envelope}
 use Rattle.envelope.specs.Adsr.{rate_of, sustain_level, cycles_of, step_of, clamped, wait_of, entered_of, phase_after, moved_of, ticked_of}
 use Rattle.noise.specs.Noise.{parity_of, shifted_of}
-use Rattle.pitch.specs.Pitch.{limited, modulated_of, step_of as pitchStep}
+use Rattle.pitch.specs.Pitch.{limited, modulated_of, step_of as pitch_step}
 
 -- what an edge speaks of: a number, or an envelope's levels, one a tick, and its phase after them
 pub data Value : Type 0 where
@@ -44,11 +44,11 @@ numbers a b = record { is = number a; shall = number b }
 pub edges : List Edge
 edges =
     -- "pitch 3FFFh steps 3FFFh; 4001h steps 4000h; 8000h modulated by -8000h steps 0, by -7FFFh steps 4000h; 1000h by 7FFFh steps 1FFFh"
-    numbers (pos (pitchStep 0x3FFF false (pos 0))) (pos 0x3FFF) ∷
-    numbers (pos (pitchStep 0x4001 false (pos 0))) (pos 0x4000) ∷
-    numbers (pos (pitchStep 0x8000 true (negsuc 0x7FFF))) (pos 0) ∷
-    numbers (pos (pitchStep 0x8000 true (negsuc 0x7FFE))) (pos 0x4000) ∷
-    numbers (pos (pitchStep 0x1000 true (pos 0x7FFF))) (pos 0x1FFF) ∷
+    numbers (pos (pitch_step 0x3FFF false (pos 0))) (pos 0x3FFF) ∷
+    numbers (pos (pitch_step 0x4001 false (pos 0))) (pos 0x4000) ∷
+    numbers (pos (pitch_step 0x8000 true (negsuc 0x7FFF))) (pos 0) ∷
+    numbers (pos (pitch_step 0x8000 true (negsuc 0x7FFE))) (pos 0x4000) ∷
+    numbers (pos (pitch_step 0x1000 true (pos 0x7FFF))) (pos 0x1FFF) ∷
     -- "volume 3FFFh is 7FFEh; 4000h is -8000h; 7FFFh is -2"
     numbers (volume_of 0x3FFF) (pos 0x7FFE) ∷
     numbers (volume_of 0x4000) (negsuc 0x7FFF) ∷
@@ -66,5 +66,5 @@ edges =
 
 -- all of them hold
 pub edges_hold : map (λ (e : Edge). e.is) edges ≡ map (λ (e : Edge). e.shall) edges
-unfolding edges numbers header run levels_of after pitchStep limited modulated_of signed modulo_of bits_of product_of volume_of saturated predicted_of sample_of rate_of sustain_level cycles_of step_of clamped wait_of entered_of phase_after moved_of ticked_of parity_of shifted_of ones_in ones
+unfolding edges numbers header run levels_of after pitch_step limited modulated_of signed modulo_of bits_of product_of volume_of saturated predicted_of sample_of rate_of sustain_level cycles_of step_of clamped wait_of entered_of phase_after moved_of ticked_of parity_of shifted_of ones_in ones
 edges_hold = refl

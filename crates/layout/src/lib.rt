@@ -7,7 +7,7 @@ ghost use Rattle.registers.specs.Map.{register_at};
 ghost use Rattle.chip.specs.State.{with_regs, with_voices, with_control, with_transfer, fresh_of, watch_of, watched_of};
 ghost use Rattle.layout.specs.Layout.{state_length, place as place_of, Formed, state_of, voice_in, Holds, wide as wide_of, low_half, high_half, phase_of, phase_number, list_of};
 ghost use Rattle.envelope.specs.Adsr.{active};
-ghost use Rattle.voice.specs.Voice.{is_idle, with_envelope, with_position, fresh as freshVoice};
+ghost use Rattle.voice.specs.Voice.{is_idle, with_envelope, with_position, fresh as fresh_voice};
 ghost use Rattle.layout.specs.Stores.{put_words, sample_word, Samples, put_tail, with_voice, with_wait, with_repeat, with_noise, with_place, with_rest, zeros_of, blank_of};
 
 use chip::{Control, Held, Reverb};
@@ -604,7 +604,7 @@ fn begin(state: &mut [u16], size: u32)
 // Makes every voice a fresh one.
 fn put_fresh(state: &mut [u16])
     requires { Formed state.old }
-    ensures { Holds state.new (with_voices (state_of state.old) (replicate 24 freshVoice)) }
+    ensures { Holds state.new (with_voices (state_of state.old) (replicate 24 fresh_voice)) }
 {
     for n in 0..24usize {
         put_voice(state, n, Voice::fresh());

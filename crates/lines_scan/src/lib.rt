@@ -2,13 +2,13 @@
 #![tactic(auto)]
 
 ghost use Rattle.std.specs.Prelude.{◌≡◌, ◌+◌, min, drop, set};
-ghost use Rattle.lines.specs.Fields.{blank as blankAt};
+ghost use Rattle.lines.specs.Fields.{blank as blank_at};
 ghost use Rattle.lines.specs.Line.{joined_of, ended_of, begun_of, grown_of, feed_of, scan_of};
 
 use lines::{Field, Line, Scanned};
 
 fn blank(b: u8) -> bool
-    ensures { result ≡ blankAt b }
+    ensures { result ≡ blank_at b }
 {
     (b == b' ') | ((b == b'\t') | (b == b'\r'))
 }

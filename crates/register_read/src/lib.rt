@@ -3,7 +3,7 @@
 
 ghost use Rattle.std.specs.Prelude.{◌≡◌, true, cond, ◌+◌, ◌^◌, ◌≤◌, ◌<◌, eqb, leb, length};
 ghost use Rattle.registers.specs.Offsets.{listed as listed_at};
-ghost use Rattle.chip.specs.Registers.{end_flags, status_of, doubled as doubledAt, read_of};
+ghost use Rattle.chip.specs.Registers.{end_flags, status_of, doubled as doubled_at, read_of};
 ghost use Rattle.layout.specs.Layout.{state_length, state_of, voice_in, Formed};
 
 // A voice's end flag, 0 or 1, as bit k.
@@ -59,7 +59,7 @@ fn status(state: &[u16]) -> u16
 // The doubled main volume; offset is the register's.
 fn doubled(state: &[u16], offset: usize) -> u16
     requires { (length state.now ≡ state_length) × (offset < 512) }
-    ensures { result ≡ doubledAt (state_of state.now) offset }
+    ensures { result ≡ doubled_at (state_of state.now) offset }
 {
     fixed::to_bits(fixed::volume(layout::register(state, offset)))
 }

@@ -4,7 +4,7 @@
 ghost use Rattle.std.specs.Prelude.{◌≡◌, ◌<◌};
 ghost use Rattle.fixed.specs.Bits.{bit};
 ghost use Rattle.registers.specs.Map.{register_at, of_voice, flag_of, Flags};
-ghost use Rattle.registers.specs.Offsets.{listed as listed_at, read_only, undocumented_bits, undocumented as undocumentedIn, not_written};
+ghost use Rattle.registers.specs.Offsets.{listed as listed_at, read_only, undocumented_bits, undocumented as undocumented_in, not_written};
 
 pub fn at(regs: &[u16; 256], offset: usize) -> u16
     requires { offset < 512 }
@@ -83,7 +83,7 @@ fn undocumented_bits(offset: u32) -> u16
 }
 
 pub fn undocumented(offset: u32, value: u16) -> bool
-    ensures { result ≡ undocumentedIn offset value }
+    ensures { result ≡ undocumented_in offset value }
 {
     value & undocumented_bits(offset) != 0
 }

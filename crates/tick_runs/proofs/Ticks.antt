@@ -6,7 +6,7 @@ use Prim.Native.Nat.{ℕ, ◌+◌, ◌*◌, ◌/◌, ◌≤◌, ◌<◌}
 use native.Mathlib.Omega.{arith}
 use lib.ListN.{length, set, length-set}
 use lib.IntN.{ℤ}
-use Rattle.noise.specs.Noise.{ticked_of as noiseOf}
+use Rattle.noise.specs.Noise.{ticked_of as noise_of}
 use Rattle.soundram.specs.declared.Watch.{Watch}
 use Rattle.soundram.specs.Address.{Lent}
 use Rattle.soundram.specs.Program.{mem_of, Access, trace}
@@ -65,7 +65,7 @@ pub record Running (s : State) (cd : List ℤ) (ram₀ marks₀ : List ℕ) (out
   }
   pub range : InRange (join_of s voices g.rest g.watch)
   pub watching : g.watch ≡ watch_of (join_of s voices g.rest g.watch)
-  pub noise : g.noise ≡ noiseOf g.rest.noise (register_at s.regs 0x1AA)
+  pub noise : g.noise ≡ noise_of g.rest.noise (register_at s.regs 0x1AA)
   pub lent : Lent s.choices.size ram marks
   pub len : length out ≡ length out₀
   pub holds : Holds ys (with_voices s voices)

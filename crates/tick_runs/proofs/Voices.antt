@@ -15,7 +15,7 @@ use Rattle.envelope.specs.Adsr.{active, ticked_of}
 use Rattle.envelope.proofs.Range.{ticked_in}
 use Rattle.envelope.proofs.Ticks.{waits_ticked}
 use Rattle.noise.specs.declared.Noise.{Noise}
-use Rattle.noise.specs.Noise.{ticked_of as noiseOf}
+use Rattle.noise.specs.Noise.{ticked_of as noise_of}
 use Rattle.soundram.specs.declared.Watch.{Watch}
 use Rattle.soundram.specs.declared.Reader.{Reader}
 use Rattle.soundram.specs.Address.{Sized}
@@ -163,6 +163,6 @@ pub below_2 : {size base place : ℕ} → PlaceIn size base place → Sized size
 below_2 p z = let h = p.most in let k = z.most in omega arith
 
 pub begun : (s : State) (count : ℕ) {regs : List ℕ} {n u : Noise} {c : Control} {r : Reverb} {p k v : ℕ} {w : Watch} → regs ≡ s.regs → n ≡ s.noise → c ≡ s.control → r ≡ s.reverb → p ≡ s.capture
-    → k ≡ s.tick → v ≡ register_at regs 0x1AA → u ≡ noiseOf n v → w ≡ watch_of s
+    → k ≡ s.tick → v ≡ register_at regs 0x1AA → u ≡ noise_of n v → w ≡ watch_of s
     → record { rest = record { noise = n; applied = c.applied; capture = p; reverb = r; tick = k }; noise = u; watch = w; irq = count; doubt = count } ≡ begin_of s count
 begun s count er en ec ev ep ek ex eu ew = rw (eu, ex, er, en, ec, ev, ep, ek, ew)

@@ -12,7 +12,7 @@ use Rattle.envelope.specs.declared.Phase.TheVariants.{Attack, Release, Off}
 use Rattle.envelope.specs.declared.Envelope.{Envelope}
 use Rattle.envelope.specs.Adsr.{active, entered_of}
 use Rattle.envelope.specs.Range as envelope
-use Rattle.envelope.proofs.Range.{entered_in as envelope-entered, ticked_in as envelope-ticked}
+use Rattle.envelope.proofs.Range.{entered_in as envelope_entered, ticked_in as envelope_ticked}
 use Rattle.pitch.specs.declared.Moved.{Moved}
 use Rattle.pitch.specs.Pitch.{step_of, moved_of}
 use Rattle.pitch.proofs.Laws.{step_most, moved_counter, moved_most}
@@ -50,7 +50,7 @@ pub keyed_on_in : {size : ℕ} (start : UnitAddress) (low high : ℕ) → Sized 
 unfolding keyed_on fresh
 keyed_on_in {size} start low high s =
     record {
-      envelope = envelope-entered Attack 0 low high (omega arith);
+      envelope = envelope_entered Attack 0 low high (omega arith);
       counter = omega arith;
       index = omega arith;
       multiple = address_multiple size start (omega arith);
@@ -62,7 +62,7 @@ unfolding keyed_off
 keyed_off_in {size} v low high r = by (goes_off v.envelope.phase)
   where
     by : (b : Bool) → InRange size (cond b (with_envelope v (entered_of Release v.envelope.level low high)) v)
-    by true = enveloped r (envelope-entered Release v.envelope.level low high r.envelope.level)
+    by true = enveloped r (envelope_entered Release v.envelope.level low high r.envelope.level)
     by false = r
 
 pub stopped_in : {size : ℕ} (v : Voice) → InRange size v → InRange size (stopped_of v)
@@ -139,7 +139,7 @@ target_small s below v c i = moves_small s v below refl refl c i
 stepped_in : {size : ℕ} (s : Settings) (below : ℤ) (v : Voice) → InRange size v → InRange size (stepped_of s below v)
 unfolding stepped_of
 stepped_in s below v r =
-    placed (enveloped r (envelope-ticked v.envelope s.low s.high r.envelope)) (moved_counter v.position.counter (step_of s.pitch s.modulated below)) r.index
+    placed (enveloped r (envelope_ticked v.envelope s.low s.high r.envelope)) (moved_counter v.position.counter (step_of s.pitch s.modulated below)) r.index
 
 arrive_in : {size : ℕ} (who : Reader) (i : ℕ) (v : Voice) → Sized size → i < 32 → InRange size v → Always (InRange size) (arrive_of who size i v)
 unfolding arrive_of

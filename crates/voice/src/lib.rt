@@ -2,7 +2,7 @@
 #![tactic(auto)]
 
 ghost use Rattle.std.specs.Prelude.{◌≡◌, ◌<◌};
-ghost use Rattle.voice.specs.Voice.{fresh as freshVoice, keyed_on, keyed_off, is_idle, goes_off};
+ghost use Rattle.voice.specs.Voice.{fresh as fresh_voice, keyed_on, keyed_off, is_idle, goes_off};
 
 use envelope::{Envelope, Phase};
 use soundram::{ByteAddress, UnitAddress};
@@ -51,7 +51,7 @@ pub struct Settings {
 impl Voice {
     // The voice of a fresh state, from which key on begins too.
     pub fn fresh() -> Self
-        ensures { result ≡ freshVoice }
+        ensures { result ≡ fresh_voice }
     {
         Voice {
             envelope: Envelope {

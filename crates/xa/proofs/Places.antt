@@ -11,7 +11,7 @@ use lib.IntN.{ℤ, pos}
 use Rattle.fixed.specs.Bits.{field}
 use Rattle.fixed.proofs.Table.{below_at}
 use Rattle.adpcm.specs.declared.History.{History}
-use Rattle.adpcm.specs.Adpcm.{header_of as blockHeaderOf, after_of}
+use Rattle.adpcm.specs.Adpcm.{header_of as block_header_of, after_of}
 use Rattle.adpcm.proofs.Laws.{acts_self}
 use Rattle.xa.specs.Xa.{header_byte, header_of, nibble_of, unit_of, channel_of, mono_of, left_of, right_of, alternate_of}
 use Rattle.xa.proofs.Laws.{nibble_even, nibble_odd, channel_length}
@@ -19,8 +19,8 @@ use Rattle.xa.proofs.Laws.{nibble_even, nibble_odd, channel_length}
 -- ---- in a sector
 
 -- a unit's header is that of a block of document 01 whose first byte has the bits 6 and 7 clear; the filter is tested at each byte
-pub header_as_block : (b : ℕ) → b < 256 → header_of b ≡ blockHeaderOf (b % 64)
-unfolding header_of blockHeaderOf
+pub header_as_block : (b : ℕ) → b < 256 → header_of b ≡ block_header_of (b % 64)
+unfolding header_of block_header_of
 header_as_block b l =
     let s : b % 64 % 16 ≡ b % 16 = omega arith in
     let f = eqb→eq (field 4 3 (b % 64)) (field 4 2 b) (below_at 256 (λ b. eqb (field 4 3 (b % 64)) (field 4 2 b)) tt b l) in

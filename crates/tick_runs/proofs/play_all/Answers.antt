@@ -1,7 +1,6 @@
 use borrow.Author.Rules.{rules}
 use mathlib.Core.Path.{refl, sym, ap, ◌∙◌}
 use mathlib.Core.Bool.{not}
-use Prim.Native.Nat.{◌-◌}
 use Rattle.pitch.proofs.Laws.{moved_counter}
 use Rattle.soundram.specs.declared.Reader.{Reader}
 use Rattle.soundram.specs.Program.{mem_of}
@@ -49,11 +48,11 @@ stay-m-requires c =
     let g = c.loaded.ensures in
     -- the voice has a block, whichever way it came
     let b : Becomes c.loop-n.n (ready_of (Reader.Voice c.loop-n.n) c.args.size (voice_in c.loop-n.state c.loop-n.n)) c.loop-n.state
-            (mem_of c.args.ram.now c.args.marks.now c.loop-n.watch) c.if-not-loaded.state (mem_of c.args.ram.now c.args.marks.now c.if-not-loaded.watch) =
-        elim c.if-not-loaded.branch [
-          | then-not-loaded w ↦ rw (w.state-is, w.watch-is) (ready_none _ _ _ g (ap not w.if-not-loaded.true) w.voice-v.ensures w.load-seen.ensures)
-          | else-not-loaded w ↦ rw (w.state-is, w.watch-is) (ready_has _ _ _ _ p.holds.formed g (ap not w.if-not-loaded.false))
-        ]
+    (mem_of c.args.ram.now c.args.marks.now c.loop-n.watch) c.if-not-loaded.state (mem_of c.args.ram.now c.args.marks.now c.if-not-loaded.watch) =
+    elim c.if-not-loaded.branch [
+      | then-not-loaded w ↦ rw (w.state-is, w.watch-is) (ready_none _ _ _ g (ap not w.if-not-loaded.true) w.voice-v.ensures w.load-seen.ensures)
+      | else-not-loaded w ↦ rw (w.state-is, w.watch-is) (ready_has _ _ _ _ p.holds.formed g (ap not w.if-not-loaded.false))
+    ]
     in
     let r = ready_in_range _ _ _ h b (played_in p h) in
     (z.0, h, z.1, z.2, z.3.each _ h, b.holds.formed.size, r.counter, r.index, r.envelope.level)
@@ -66,11 +65,11 @@ pass_end-seen-requires c =
     let g = c.loaded.ensures in
     -- the voice has a block, whichever way it came
     let b : Becomes c.loop-n.n (ready_of (Reader.Voice c.loop-n.n) c.args.size (voice_in c.loop-n.state c.loop-n.n)) c.loop-n.state
-            (mem_of c.args.ram.now c.args.marks.now c.loop-n.watch) c.if-not-loaded.state (mem_of c.args.ram.now c.args.marks.now c.if-not-loaded.watch) =
-        elim c.if-not-loaded.branch [
-          | then-not-loaded w ↦ rw (w.state-is, w.watch-is) (ready_none _ _ _ g (ap not w.if-not-loaded.true) w.voice-v.ensures w.load-seen.ensures)
-          | else-not-loaded w ↦ rw (w.state-is, w.watch-is) (ready_has _ _ _ _ p.holds.formed g (ap not w.if-not-loaded.false))
-        ]
+    (mem_of c.args.ram.now c.args.marks.now c.loop-n.watch) c.if-not-loaded.state (mem_of c.args.ram.now c.args.marks.now c.if-not-loaded.watch) =
+    elim c.if-not-loaded.branch [
+      | then-not-loaded w ↦ rw (w.state-is, w.watch-is) (ready_none _ _ _ g (ap not w.if-not-loaded.true) w.voice-v.ensures w.load-seen.ensures)
+      | else-not-loaded w ↦ rw (w.state-is, w.watch-is) (ready_has _ _ _ _ p.holds.formed g (ap not w.if-not-loaded.false))
+    ]
     in
     let m = c.stay-m.ensures in
     let t = c.if-m-gt27.true in
@@ -96,11 +95,11 @@ loop-n-preserved-then-m-gt27 c =
     let g = c.loaded.ensures in
     -- the voice has a block, whichever way it came
     let b : Becomes c.loop-n.n (ready_of (Reader.Voice c.loop-n.n) c.args.size (voice_in c.loop-n.state c.loop-n.n)) c.loop-n.state
-            (mem_of c.args.ram.now c.args.marks.now c.loop-n.watch) c.if-not-loaded.state (mem_of c.args.ram.now c.args.marks.now c.if-not-loaded.watch) =
-        elim c.if-not-loaded.branch [
-          | then-not-loaded w ↦ rw (w.state-is, w.watch-is) (ready_none _ _ _ g (ap not w.if-not-loaded.true) w.voice-v.ensures w.load-seen.ensures)
-          | else-not-loaded w ↦ rw (w.state-is, w.watch-is) (ready_has _ _ _ _ p.holds.formed g (ap not w.if-not-loaded.false))
-        ]
+    (mem_of c.args.ram.now c.args.marks.now c.loop-n.watch) c.if-not-loaded.state (mem_of c.args.ram.now c.args.marks.now c.if-not-loaded.watch) =
+    elim c.if-not-loaded.branch [
+      | then-not-loaded w ↦ rw (w.state-is, w.watch-is) (ready_none _ _ _ g (ap not w.if-not-loaded.true) w.voice-v.ensures w.load-seen.ensures)
+      | else-not-loaded w ↦ rw (w.state-is, w.watch-is) (ready_has _ _ _ _ p.holds.formed g (ap not w.if-not-loaded.false))
+    ]
     in
     let m = c.stay-m.ensures in
     let e = c.pass_end-seen.ensures in
@@ -114,11 +113,11 @@ put_position-requires c =
     let g = c.loaded.ensures in
     -- the voice has a block, whichever way it came
     let b : Becomes c.loop-n.n (ready_of (Reader.Voice c.loop-n.n) c.args.size (voice_in c.loop-n.state c.loop-n.n)) c.loop-n.state
-            (mem_of c.args.ram.now c.args.marks.now c.loop-n.watch) c.if-not-loaded.state (mem_of c.args.ram.now c.args.marks.now c.if-not-loaded.watch) =
-        elim c.if-not-loaded.branch [
-          | then-not-loaded w ↦ rw (w.state-is, w.watch-is) (ready_none _ _ _ g (ap not w.if-not-loaded.true) w.voice-v.ensures w.load-seen.ensures)
-          | else-not-loaded w ↦ rw (w.state-is, w.watch-is) (ready_has _ _ _ _ p.holds.formed g (ap not w.if-not-loaded.false))
-        ]
+    (mem_of c.args.ram.now c.args.marks.now c.loop-n.watch) c.if-not-loaded.state (mem_of c.args.ram.now c.args.marks.now c.if-not-loaded.watch) =
+    elim c.if-not-loaded.branch [
+      | then-not-loaded w ↦ rw (w.state-is, w.watch-is) (ready_none _ _ _ g (ap not w.if-not-loaded.true) w.voice-v.ensures w.load-seen.ensures)
+      | else-not-loaded w ↦ rw (w.state-is, w.watch-is) (ready_has _ _ _ _ p.holds.formed g (ap not w.if-not-loaded.false))
+    ]
     in
     (h, b.holds.formed)
 
@@ -149,11 +148,11 @@ loop-n-preserved c =
     let g = c.loaded.ensures in
     -- the voice has a block, whichever way it came
     let b : Becomes c.loop-n.n (ready_of (Reader.Voice c.loop-n.n) c.args.size (voice_in c.loop-n.state c.loop-n.n)) c.loop-n.state
-            (mem_of c.args.ram.now c.args.marks.now c.loop-n.watch) c.if-not-loaded.state (mem_of c.args.ram.now c.args.marks.now c.if-not-loaded.watch) =
-        elim c.if-not-loaded.branch [
-          | then-not-loaded w ↦ rw (w.state-is, w.watch-is) (ready_none _ _ _ g (ap not w.if-not-loaded.true) w.voice-v.ensures w.load-seen.ensures)
-          | else-not-loaded w ↦ rw (w.state-is, w.watch-is) (ready_has _ _ _ _ p.holds.formed g (ap not w.if-not-loaded.false))
-        ]
+    (mem_of c.args.ram.now c.args.marks.now c.loop-n.watch) c.if-not-loaded.state (mem_of c.args.ram.now c.args.marks.now c.if-not-loaded.watch) =
+    elim c.if-not-loaded.branch [
+      | then-not-loaded w ↦ rw (w.state-is, w.watch-is) (ready_none _ _ _ g (ap not w.if-not-loaded.true) w.voice-v.ensures w.load-seen.ensures)
+      | else-not-loaded w ↦ rw (w.state-is, w.watch-is) (ready_has _ _ _ _ p.holds.formed g (ap not w.if-not-loaded.false))
+    ]
     in
     let m = c.stay-m.ensures in
     let t = c.if-m-gt27.false in
