@@ -4,7 +4,7 @@
 
 use std::fs::File;
 use std::io;
-use std::io::Read;
+use std::io::{ErrorKind, Read};
 
 const BLOCKS: u32 = 288;
 
@@ -26,12 +26,20 @@ fn print_block(rt: &impl Print, samples: [i16; 28]) -> io::Result<()> {
     Ok(())
 }
 
+// Fills the bytes from a file; where it ends early, the rest of them stays.
+fn read_full(file: &mut impl Read, bytes: &mut [u8]) -> io::Result<()> {
+    match file.read_exact(bytes) {
+        Err(e) if e.kind() == ErrorKind::UnexpectedEof => Ok(()),
+        done => done,
+    }
+}
+
 fn decode_all(rt: &impl Print, file: &mut impl Read) -> io::Result<()> {
     let mut old = 0i16;
     let mut older = 0i16;
     for _ in 0..BLOCKS {
         let mut bytes = [0u8; 16];
-        file.read_exact(&mut bytes)?;
+        read_full(file, &mut bytes)?;
         let samples = adpcm::decode(bytes, old, older);
         print_block(rt, samples)?;
         old = samples[27];

@@ -5,7 +5,7 @@
 ghost use Rattle.std.specs.Prelude.{◌*◌, ◌≤◌, length};
 
 use encoder_check::{Fault, Verdict};
-use std::io::Read;
+use std::io::{ErrorKind, Read};
 use std::rt::Files;
 use std::{fs, io};
 
@@ -89,11 +89,19 @@ fn check_sound(rt: &impl Print, originals: &mut [i16], encoded: &[u8]) -> io::Re
     check_prefix(rt, originals, encoded)
 }
 
+// Fills the bytes from a file; where it ends early, the rest of them stays.
+fn read_full(file: &mut impl Read, bytes: &mut [u8]) -> io::Result<()> {
+    match file.read_exact(bytes) {
+        Err(e) if e.kind() == ErrorKind::UnexpectedEof => Ok(()),
+        done => done,
+    }
+}
+
 fn check_outside(rt: &impl Print, file: &mut impl Read) -> io::Result<()> {
     let mut bytes = [0u8; 16128];
-    file.read_exact(&mut bytes)?;
+    read_full(file, &mut bytes)?;
     let mut encoded = [0u8; 4608];
-    file.read_exact(&mut encoded)?;
+    read_full(file, &mut encoded)?;
     let mut originals = [0i16; 8064];
     read_samples(&bytes, &mut originals);
     check_sound(rt, &mut originals, &encoded)
@@ -118,7 +126,7 @@ fn answer_case(rt: &impl Print, case: &[u8], originals: &[i16]) -> io::Result<()
 fn answer_cases(rt: &impl Print, file: &mut impl Read) -> io::Result<()> {
     for _ in 0..CASES {
         let mut case = [0u8; CASE_BYTES];
-        file.read_exact(&mut case)?;
+        read_full(file, &mut case)?;
         let mut originals = [0i16; 168];
         read_samples(&case[6..342], &mut originals);
         answer_case(rt, &case, &originals)?;
