@@ -228,7 +228,7 @@ fn read_full(file: &mut impl Read, buffer: &mut [u8]) -> io::Result<usize>
     Ok(done)
 }
 
-// Puts a file at the start of a buffer, and answers its length. Says on standard error why a file does not open, and answers 0.
+// Puts a file at the start of a buffer, and answers its length. Where the file does not open, says why on standard error and answers 0.
 fn read_file<R: Files + Eprint>(rt: &R, path: &str, buffer: &mut [u8]) -> io::Result<usize>
     ensures { ReadsAtMost result buffer.new }
 {

@@ -89,7 +89,7 @@ fn check_sound(rt: &impl Print, originals: &mut [i16], encoded: &[u8]) -> io::Re
     check_prefix(rt, originals, encoded)
 }
 
-// Fills the bytes from a file; where it ends early, the rest of them stays.
+// Fills the bytes from a file. Where the file ends early, the bytes that are left stay as they were.
 fn read_full(file: &mut impl Read, bytes: &mut [u8]) -> io::Result<()> {
     match file.read_exact(bytes) {
         Err(e) if e.kind() == ErrorKind::UnexpectedEof => Ok(()),

@@ -48,7 +48,7 @@ fn print_histories(rt: &impl Print, h: Histories) -> io::Result<()> {
 
 // ---- the sectors of an outside decoder
 
-// Fills the bytes from a file; where it ends early, the rest of them stays.
+// Fills the bytes from a file. Where the file ends early, the bytes that are left stay as they were.
 fn read_full(file: &mut impl Read, bytes: &mut [u8]) -> io::Result<()> {
     match file.read_exact(bytes) {
         Err(e) if e.kind() == ErrorKind::UnexpectedEof => Ok(()),
