@@ -1,7 +1,7 @@
 #!/usr/bin/env python3
 """Brings the repository's own definitions and lemmas to the spelling of today's Rattle.
 
-usage: python3 tools/respell.py          once, at the top, after /opt/rattle/port/port.py
+usage: python3 tools/respell.py          once, at the top, after port.py of the kit
        python3 tools/respell.py --list   prints each name, old and new, and changes nothing
 
 Words are in snake case, those that an import gives a name too: `loopedOf` becomes `looped_of`, `run-is-log` becomes `run_is_log`, and a prime is `'`. Types and modules keep their
