@@ -1,19 +1,20 @@
 -- What a voice that stays in its block gives, from what the code's parts give. Assumes nothing.
-use mathlib.Core.Path.{◌≡◌, refl, ◌∙◌, ap}
+use mathlib.Core.Path.{◌≡◌, refl, sym, ◌∙◌, ap}
 use mathlib.Core.Bool.{Bool, true, false, ◌||◌}
 use mathlib.Core.List.{List}
 use Prim.Native.Nat.{ℕ, ◌+◌, ◌≤◌, ◌<◌}
 use native.Mathlib.Omega.{arith}
-use lib.ListN.{length, get_or, set, length-set}
-use lib.Seq.{get_or-set_same, get_or-set_other}
+use lib.ListN.{get_or}
 use lib.IntN.{ℤ, pos}
-use borrow.Author.Count.{below_more}
+use Rattle.std.specs.Prelude.{Some, None}
+use Rattle.std.proofs.lemmas.Option.{none-some, same_Some}
 use Rattle.fixed.specs.Bits.{bit}
 use Rattle.fixed.specs.Arithmetic.{product_of}
 use Rattle.fixed.proofs.Bools.{or_first, or_rest}
 use Rattle.gauss.specs.Gauss.{index_of, interpolated_of}
 use Rattle.pitch.specs.declared.Moved.{Moved}
 use Rattle.pitch.specs.Pitch.{step_of, moved_of}
+use Rattle.pitch.proofs.Laws.{step_most}
 use Rattle.registers.specs.Map.{of_voice, Flags}
 use Rattle.voice.specs.declared.Position.{Position}
 use Rattle.voice.specs.declared.Settings.{Settings}
@@ -22,7 +23,7 @@ use Rattle.voice.specs.Voice.{sound_of, amplitude_of, movement_of, target_of}
 use Rattle.voice.proofs.Range.{moved_small}
 use Rattle.voice_sound.proofs.Sounds.{sound_samples}
 use Rattle.voices.specs.Voices.{Modulated, settings_of}
-use Rattle.fast_path.specs.Steady.{Toned, steady_of, Steps}
+use Rattle.fast_path.specs.Steady.{Toned, steady_of}
 
 -- ---- t has the same pitch, modulation and noise as s
 
@@ -48,66 +49,46 @@ module _ {s t : Settings} (e : Toned s t) (below : ℤ) (v : Voice) where
 -- ---- steps that hold from tick to tick
 
 module _ (s : Settings) where
-  pub steady_none : (s.noise || s.modulated) ≡ true → 0xFFFF ≡ steady_of s
+  pub steady_none : (s.noise || s.modulated) ≡ true → None ≡ steady_of s
   unfolding steady_of
   steady_none e = rw e
 
-  pub steady_some : {r : ℕ} → (s.noise || s.modulated) ≡ false → r ≡ step_of s.pitch false (pos 0) → r ≡ steady_of s
+  pub steady_some : {r : ℕ} → (s.noise || s.modulated) ≡ false → r ≡ step_of s.pitch false (pos 0) → Some r ≡ steady_of s
   unfolding steady_of
   steady_some e p = rw (e, p)
 
-  -- a step says that the voice plays its samples and is not modulated
-  steady_plain : steady_of s ≤ 0x4000 → (s.noise || s.modulated) ≡ false
-  steady_plain h = by (s.noise || s.modulated) refl
-    where
-      by : (b : Bool) → (s.noise || s.modulated) ≡ b → b ≡ false
-      by false e = refl
-      by true e = let z = steady_none e in absurd (omega arith)
-
-  module _ {p : ℕ} (h : p ≡ steady_of s) (k : p ≤ 0x4000) (below : ℤ) (v : Voice) where
+  module _ {p : ℕ} (h : Some p ≡ steady_of s) where
+    -- a step says that the voice plays its samples and is not modulated
     plain : (s.noise || s.modulated) ≡ false
-    plain = steady_plain (omega arith)
+    plain = by (s.noise || s.modulated) refl
+      where
+        by : (b : Bool) → (s.noise || s.modulated) ≡ b → b ≡ false
+        by false e = refl
+        by true e = absurd (none-some _ (steady_none e ∙ sym h))
 
-    step_here : p ≡ step_of s.pitch s.modulated below
-    unfolding steady_of step_of
-    step_here = h ∙ rw (plain, or_rest s.noise _ plain)
+    step_is : p ≡ step_of s.pitch false (pos 0)
+    unfolding steady_of
+    step_is = same_Some _ _ (h ∙ rw plain)
 
-    pub plain_counter : {c : ℕ} → c ≡ (moved_of v.position.counter p).counter → c ≡ (movement_of s below v).counter
-    plain_counter e = e ∙ ap (λ (q : ℕ). (moved_of v.position.counter q).counter) step_here
+    pub step_small : p ≤ 0x4000
+    step_small = rw step_is (step_most _ _ _)
 
-    pub plain_target : {i : ℕ} → i ≡ v.position.index + (moved_of v.position.counter p).moves → i ≡ target_of s below v
-    unfolding target_of
-    plain_target e = e ∙ ap (λ (q : ℕ). v.position.index + (moved_of v.position.counter q).moves) step_here
+    module _ (below : ℤ) (v : Voice) where
+      step_here : p ≡ step_of s.pitch s.modulated below
+      unfolding step_of
+      step_here = step_is ∙ rw (or_rest s.noise _ plain)
 
-    -- t is another voice's settings that plays its samples
-    pub plain_amplitude : (t : Settings) (l level : ℕ) {a : ℤ} → t.noise ≡ false → a ≡ amplitude_of t l v → a ≡ amplitude_of s level v
-    unfolding amplitude_of sound_of
-    plain_amplitude t l level f e = e ∙ rw (f, or_first s.noise s.modulated plain)
+      pub plain_counter : {c : ℕ} → c ≡ (moved_of v.position.counter p).counter → c ≡ (movement_of s below v).counter
+      plain_counter e = e ∙ ap (λ (q : ℕ). (moved_of v.position.counter q).counter) step_here
 
--- the steps of the first n voices
-pub record Stepping (regs v : List ℕ) (n : ℕ) : Type 0 where
-  pub few : n ≤ 24
-  pub len : length v ≡ 24
-  pub each : (k : ℕ) → k < n → get_or v k 0 ≡ steady_of (settings_of regs k)
+      pub plain_target : {i : ℕ} → i ≡ v.position.index + (moved_of v.position.counter p).moves → i ≡ target_of s below v
+      unfolding target_of
+      plain_target e = e ∙ ap (λ (q : ℕ). v.position.index + (moved_of v.position.counter q).moves) step_here
 
-pub stepping_none : (regs v : List ℕ) → length v ≡ 24 → Stepping regs v 0
-stepping_none regs v l = record { few = omega arith; len = l; each = λ k h. absurd (none k h) }
-  where
-    none : (k : ℕ) → k < 0 → ⊥
-    none k h = omega arith
-
-pub stepping_more : (regs v : List ℕ) (n : ℕ) {x : ℕ} {s : Settings} → Stepping regs v n → n < 24 → s ≡ settings_of regs n → x ≡ steady_of s → Stepping regs (set v n x) (n + 1)
-stepping_more regs v n {x} f h es ex =
-    let l = f.len in
-    record {
-      few = omega arith;
-      len = length-set v n x ∙ l;
-      each = below_more (λ (k : ℕ). get_or (set v n x) k 0 ≡ steady_of (settings_of regs k)) n (λ k p. get_or-set_other v n k x 0 (λ e. omega arith) ∙ f.each k p)
-          (get_or-set_same v n x 0 (omega arith) ∙ ex ∙ ap steady_of es);
-    }
-
-pub stepping_end : {regs v : List ℕ} {n : ℕ} → Stepping regs v n → 24 ≤ n → Steps regs v
-stepping_end f h = record { each = λ k p. f.each k (omega arith) }
+      -- t is another voice's settings that plays its samples
+      pub plain_amplitude : (t : Settings) (l level : ℕ) {a : ℤ} → t.noise ≡ false → a ≡ amplitude_of t l v → a ≡ amplitude_of s level v
+      unfolding amplitude_of sound_of
+      plain_amplitude t l level f e = e ∙ rw (f, or_first s.noise s.modulated plain)
 
 -- ---- what a voice of the buffer gives, of its position p and the four samples there
 

@@ -1,5 +1,5 @@
 -- What the registers say about a voice in most ticks. Assumes nothing.
-use Rattle.std.specs.Prelude.{◌≡◌, cond, false, ◌||◌, List, ℕ, ◌<◌, get_or, pos}
+use Rattle.std.specs.Prelude.{◌≡◌, Option, Some, None, cond, false, ◌||◌, List, ℕ, ◌<◌, get_or, pos}
 use Rattle.pitch.specs.Pitch.{step_of}
 use Rattle.voice.specs.declared.Settings.{Settings}
 use Rattle.voices.specs.Voices.{settings_of}
@@ -10,10 +10,10 @@ pub record Toned (s t : Settings) : Type 0 where
   pub modulated : t.modulated ≡ s.modulated
   pub noise : t.noise ≡ s.noise
 
--- the pitch step of a voice that plays its samples and is not modulated, whatever the voice below gives; FFFFh, which is no step, for any other voice
-unfoldable pub steady_of : Settings → ℕ
-steady_of s = cond (s.noise || s.modulated) 0xFFFF (step_of s.pitch false (pos 0))
+-- the pitch step of a voice that plays its samples and is not modulated, whatever the voice below gives; none for any other voice
+unfoldable pub steady_of : Settings → Option ℕ
+steady_of s = cond (s.noise || s.modulated) None (Some (step_of s.pitch false (pos 0)))
 
 -- those of all voices
-pub record Steps (regs steps : List ℕ) : Type 0 where
-  pub each : (n : ℕ) → n < 24 → get_or steps n 0 ≡ steady_of (settings_of regs n)
+pub record Steps (regs : List ℕ) (steps : List (Option ℕ)) : Type 0 where
+  pub each : (n : ℕ) → n < 24 → get_or steps n None ≡ steady_of (settings_of regs n)

@@ -2,15 +2,16 @@
 #![tactic(auto)]
 
 ghost use Rattle.std.specs.Prelude.{◌≡◌, ◌+◌, ◌≤◌, ◌<◌, length};
-ghost use Rattle.gauss.specs.Gauss.{table as factors};
 ghost use Rattle.pitch.specs.Pitch.{moved_of};
-ghost use Rattle.registers.specs.Map.{Flags};
 ghost use Rattle.voice.specs.Voice.{sound_of, amplitude_of, movement_of, target_of};
-ghost use Rattle.voices.specs.Voices.{Modulated, settings_of};
+ghost use Rattle.voices.specs.Voices.{settings_of};
 ghost use Rattle.layout.specs.Layout.{state_length, voice_in};
 ghost use Rattle.fast_path.specs.Steady.{Toned, steady_of, Steps};
 
+use gauss::Table;
+use std::array;
 use voice::Settings;
+use voices::AllSettings;
 
 // What a tick of a voice with its block loaded gives, beside its envelope's step: the place between samples, the sample that it
 // leads to, which may lie past the block's last, and the amplitude.
@@ -22,45 +23,39 @@ pub struct Stayed {
 }
 
 // What every tick looks at in voice n's settings; the rates of its envelope are left out.
-fn tone(regs: &[u16; 256], pmon: u32, non: u32, n: usize) -> Settings
-    requires { (n < 24) × Modulated regs.now pmon × Flags regs.now 0x194 non }
-    ensures { Toned (settings_of regs.now n) result }
+fn tone(all: &AllSettings<'_>, n: usize) -> Settings
+    requires { n < 24 }
+    ensures { Toned (settings_of all.now.regs.now n) result }
 {
     Settings {
-        pitch: registers::of_voice(regs, n, 4),
+        pitch: registers::of_voice(all.regs, n, 4),
         low: 0,
         high: 0,
-        modulated: registers::has(pmon, n),
-        noise: registers::has(non, n),
+        modulated: registers::has(all.pmon, n),
+        noise: registers::has(all.non, n),
     }
 }
 
-// The pitch step of a voice that plays its samples and is not modulated: it holds as long as the registers do. FFFFh stands for any other voice.
-fn steady(s: Settings) -> u16
+// The pitch step of a voice that plays its samples and is not modulated: it holds as long as the registers do.
+fn steady(s: Settings) -> Option<u16>
     ensures { result ≡ steady_of s }
 {
     if s.noise | s.modulated {
-        return 0xFFFF;
+        return None;
     }
-    pitch::step(s.pitch, false, 0)
+    Some(pitch::step(s.pitch, false, 0))
 }
 
 // The same for all voices.
-pub fn steps(regs: &[u16; 256], pmon: u32, non: u32) -> [u16; 24]
-    requires { Modulated regs.now pmon × Flags regs.now 0x194 non }
-    ensures { Steps regs.now result }
+pub fn steps(all: &AllSettings<'_>) -> [Option<u16>; 24]
+    ensures { Steps all.now.regs.now result }
 {
-    let mut v = [0u16; 24];
-    for i in 0..24usize {
-        let step = steady(voices::settings_by(regs, pmon, non, i));
-        v[i] = step;
-    }
-    v
+    array::from_fn(|n| steady(all.of(n)))
 }
 
 // What voice n gives before its envelope: its samples, interpolated, or the noise.
-fn sound(table: &[i16; 512], s: Settings, level: u16, state: &[u16], n: usize) -> i16
-    requires { (table.now ≡ factors) × (n < 24) × (length state.now ≡ state_length) × ((voice_in state.now n).position.index ≤ 27) }
+fn sound(table: &Table, s: Settings, level: u16, state: &[u16], n: usize) -> i16
+    requires { (n < 24) × (length state.now ≡ state_length) × ((voice_in state.now n).position.index ≤ 27) }
     ensures { result ≡ sound_of s level (voice_in state.now n) }
 {
     if s.noise {
@@ -69,8 +64,7 @@ fn sound(table: &[i16; 512], s: Settings, level: u16, state: &[u16], n: usize) -
     let p = layout::position(state, n);
     let i = gauss::index(p.counter);
     let k = p.index as usize;
-    gauss::interpolate(
-        table,
+    table.interpolate(
         i,
         layout::sample(state, n, k),
         layout::sample(state, n, k + 1),
@@ -80,8 +74,8 @@ fn sound(table: &[i16; 512], s: Settings, level: u16, state: &[u16], n: usize) -
 }
 
 // What voice n gives by these settings, and where the pitch step leads it.
-fn moved(table: &[i16; 512], state: &[u16], n: usize, s: Settings, level: u16, step: u16) -> Stayed
-    requires { (table.now ≡ factors) × (n < 24) × (length state.now ≡ state_length) × ((voice_in state.now n).position.counter < 0x1000) × ((voice_in state.now n).position.index ≤ 27) × ((voice_in state.now n).envelope.level ≤ 0x7FFF) × (step ≤ 0x4000) }
+fn moved(table: &Table, state: &[u16], n: usize, s: Settings, level: u16, step: u16) -> Stayed
+    requires { (n < 24) × (length state.now ≡ state_length) × ((voice_in state.now n).position.counter < 0x1000) × ((voice_in state.now n).position.index ≤ 27) × ((voice_in state.now n).envelope.level ≤ 0x7FFF) × (step ≤ 0x4000) }
     ensures { (result.counter ≡ (moved_of (voice_in state.now n).position.counter step).counter) × (result.target ≡ (voice_in state.now n).position.index + (moved_of (voice_in state.now n).position.counter step).moves) × (result.target < 32) × (result.amplitude ≡ amplitude_of s level (voice_in state.now n)) }
 {
     let x = voice_sound::scaled(sound(table, s, level, state, n), layout::level(state, n));
@@ -96,20 +90,18 @@ fn moved(table: &[i16; 512], state: &[u16], n: usize, s: Settings, level: u16, s
 
 // Voice n with its block loaded. Most voices play their samples and are not modulated, and need neither their settings nor the voice below.
 pub fn stay(
-    table: &[i16; 512],
-    regs: &[u16; 256],
-    pmon: u32,
-    non: u32,
+    table: &Table,
+    all: &AllSettings<'_>,
     state: &[u16],
     n: usize,
-    step: u16,
+    step: Option<u16>,
     below: i16,
     level: u16,
 ) -> Stayed
-    requires { (table.now ≡ factors) × (n < 24) × Modulated regs.now pmon × Flags regs.now 0x194 non × (step ≡ steady_of (settings_of regs.now n)) × (length state.now ≡ state_length) × ((voice_in state.now n).position.counter < 0x1000) × ((voice_in state.now n).position.index ≤ 27) × ((voice_in state.now n).envelope.level ≤ 0x7FFF) }
-    ensures { (result.counter ≡ (movement_of (settings_of regs.now n) below (voice_in state.now n)).counter) × (result.target ≡ target_of (settings_of regs.now n) below (voice_in state.now n)) × (result.target < 32) × (result.amplitude ≡ amplitude_of (settings_of regs.now n) level (voice_in state.now n)) }
+    requires { (n < 24) × (step ≡ steady_of (settings_of all.now.regs.now n)) × (length state.now ≡ state_length) × ((voice_in state.now n).position.counter < 0x1000) × ((voice_in state.now n).position.index ≤ 27) × ((voice_in state.now n).envelope.level ≤ 0x7FFF) }
+    ensures { (result.counter ≡ (movement_of (settings_of all.now.regs.now n) below (voice_in state.now n)).counter) × (result.target ≡ target_of (settings_of all.now.regs.now n) below (voice_in state.now n)) × (result.target < 32) × (result.amplitude ≡ amplitude_of (settings_of all.now.regs.now n) level (voice_in state.now n)) }
 {
-    if step <= 0x4000 {
+    if let Some(step) = step {
         let plain = Settings {
             pitch: 0,
             low: 0,
@@ -119,7 +111,7 @@ pub fn stay(
         };
         return moved(table, state, n, plain, 0, step);
     }
-    let s = tone(regs, pmon, non, n);
+    let s = tone(all, n);
     moved(
         table,
         state,

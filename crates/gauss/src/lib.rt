@@ -3,7 +3,7 @@
 
 ghost use Rattle.std.specs.Prelude.{◌≡◌, ◌<◌};
 ghost use Rattle.fixed.specs.Range.{In};
-ghost use Rattle.gauss.specs.Gauss.{table as factors, factor_at, index_of, tap_of, interpolated_of};
+ghost use Rattle.gauss.specs.Gauss.{table, factor_at, index_of, tap_of, interpolated_of};
 
 const TABLE: [i16; 512] = [
     -0x0001, -0x0001, -0x0001, -0x0001, -0x0001, -0x0001, -0x0001, -0x0001, -0x0001, -0x0001,
@@ -51,25 +51,45 @@ const TABLE: [i16; 512] = [
     0x597C, 0x5986, 0x598F, 0x5997, 0x599E, 0x59A4, 0x59A9, 0x59AD, 0x59B0, 0x59B2, 0x59B3,
 ];
 
-// The table, which a caller makes once and lends to each interpolation.
-pub fn table() -> [i16; 512]
-    ensures { result ≡ factors }
-{
-    TABLE
+// The table, which a caller makes once and lends to what interpolates.
+#[derive(Clone, Copy)]
+pub struct Table {
+    pub factors: [i16; 512],
+    pub ghost right: { factors ≡ table },
 }
 
-fn factor(t: &[i16; 512], i: usize) -> i32
-    requires { (t.now ≡ factors) × (i < 512) }
-    ensures { (result ≡ factor_at i) × (In 1 0x59B3 result) }
-{
-    t[i] as i32
-}
+impl Table {
+    pub fn new() -> Self
+        ensures { result.factors ≡ table }
+    {
+        Table { factors: TABLE }
+    }
 
-fn tap(t: &[i16; 512], i: usize, sample: i16) -> i32
-    requires { (t.now ≡ factors) × (i < 512) }
-    ensures { (result ≡ tap_of i sample) × (In 0x59B3 0x59B2 result) }
-{
-    fixed::product(factor(t, i), sample)
+    fn factor(&self, i: usize) -> i32
+        requires { i < 512 }
+        ensures { (result ≡ factor_at i) × (In 1 0x59B3 result) }
+    {
+        self.factors[i] as i32
+    }
+
+    fn tap(&self, i: usize, sample: i16) -> i32
+        requires { i < 512 }
+        ensures { (result ≡ tap_of i sample) × (In 0x59B3 0x59B2 result) }
+    {
+        fixed::product(self.factor(i), sample)
+    }
+
+    // The value at place i of 256 between `older` and `old`.
+    pub fn interpolate(&self, i: u8, oldest: i16, older: i16, old: i16, new: i16) -> i16
+        ensures { result ≡ interpolated_of i oldest older old new }
+    {
+        let k = i as usize;
+        let sum = self.tap(0xFF - k, oldest)
+            + self.tap(0x1FF - k, older)
+            + self.tap(0x100 + k, old)
+            + self.tap(k, new);
+        sum as i16
+    }
 }
 
 // The place between two samples, from the pitch counter.
@@ -77,17 +97,4 @@ pub fn index(counter: u16) -> u8
     ensures { result ≡ index_of counter }
 {
     (counter / 16 % 256) as u8
-}
-
-// The value at place i of 256 between `older` and `old`.
-pub fn interpolate(t: &[i16; 512], i: u8, oldest: i16, older: i16, old: i16, new: i16) -> i16
-    requires { t.now ≡ factors }
-    ensures { result ≡ interpolated_of i oldest older old new }
-{
-    let k = i as usize;
-    let sum = tap(t, 0xFF - k, oldest)
-        + tap(t, 0x1FF - k, older)
-        + tap(t, 0x100 + k, old)
-        + tap(t, k, new);
-    sum as i16
 }

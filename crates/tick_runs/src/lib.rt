@@ -2,13 +2,11 @@
 #![tactic(auto)]
 
 ghost use Rattle.std.specs.Prelude.{◌≡◌, ◌%◌, ◌<◌};
-ghost use Rattle.gauss.specs.Gauss.{table as factors};
 ghost use Rattle.soundram.specs.Address.{Lent};
 ghost use Rattle.soundram.specs.Program.{mem_of};
-ghost use Rattle.registers.specs.Map.{Flags};
 ghost use Rattle.voice.specs.Range as voice;
 ghost use Rattle.voice.specs.Voice.{load_of, arrive_of};
-ghost use Rattle.voices.specs.Voices.{Modulated, AllIn};
+ghost use Rattle.voices.specs.Voices.{AllIn};
 ghost use Rattle.chip.specs.Range.{InRange};
 ghost use Rattle.tick.specs.Run.{join_of, begin_of};
 ghost use Rattle.layout.specs.Layout.{state_of, voice_in, Formed, Holds};
@@ -17,9 +15,11 @@ ghost use Rattle.fast_path.specs.Steady.{Steps};
 ghost use Rattle.tick_runs.specs.Run.{Becomes, enveloped, moved_to, PlaysAll, Runs};
 
 use chip::Control;
+use gauss::Table;
 use soundram::{Reader, Watch};
 use tick::{Going, Rest};
 use voice::{Position, Voice};
+use voices::AllSettings;
 
 // The amplitudes of all voices.
 #[derive(Clone, Copy)]
@@ -49,31 +49,28 @@ fn load(
     ensures { Becomes n (load_of (Reader.Voice n) size v) state.old (mem_of ram.now marks.now w) state.new (mem_of ram.now marks.now result) }
 {
     let l = voice_block::fetch(v, Reader::Voice(n as u8), size, ram, marks, w);
-    let after = l.voice;
-    layout::put_voice(state, n, after);
+    layout::put_voice(state, n, l.voice);
     l.watch
 }
 
 // The envelope of voice n takes its step. Most only wait, and look at no rate.
-fn step_envelope(regs: &[u16; 256], pmon: u32, non: u32, state: &mut [u16], n: usize)
-    requires { (n < 24) × Modulated regs.now pmon × Flags regs.now 0x194 non × Formed state.old }
-    ensures { Holds state.new (with_voice (state_of state.old) n (enveloped regs.now n (voice_in state.old n))) }
+fn step_envelope(all: &AllSettings<'_>, state: &mut [u16], n: usize)
+    requires { (n < 24) × Formed state.old }
+    ensures { Holds state.new (with_voice (state_of state.old) n (enveloped all.now.regs.now n (voice_in state.old n))) }
 {
     let wait = layout::wait(state, n);
     if layout::is_active(state, n) & (1 < wait) {
         layout::put_wait(state, n, wait - 1);
         return;
     }
-    let s = voices::settings_by(regs, pmon, non, n);
+    let s = all.of(n);
     let e = envelope_tick::tick(layout::envelope(state, n), s.low, s.high);
     layout::put_envelope(state, n, e);
 }
 
 // Both steps of voice n, where the pitch step leads past the block's last sample.
 fn pass_end(
-    regs: &[u16; 256],
-    pmon: u32,
-    non: u32,
+    all: &AllSettings<'_>,
     state: &mut [u16],
     n: usize,
     counter: u16,
@@ -83,29 +80,30 @@ fn pass_end(
     marks: &[u8],
     w: Watch,
 ) -> Watch
-    requires { (n < 24) × Modulated regs.now pmon × Flags regs.now 0x194 non × Formed state.old × voice.InRange size (voice_in state.old n) × (counter < 0x1000) × (27 < target) × (target < 32) × Lent size ram.now marks.now }
-    ensures { Becomes n (arrive_of (Reader.Voice n) size target (moved_to regs.now n counter (voice_in state.old n))) state.old (mem_of ram.now marks.now w) state.new (mem_of ram.now marks.now result) }
+    requires { (n < 24) × Formed state.old × voice.InRange size (voice_in state.old n) × (counter < 0x1000) × (27 < target) × (target < 32) × Lent size ram.now marks.now }
+    ensures { Becomes n (arrive_of (Reader.Voice n) size target (moved_to all.now.regs.now n counter (voice_in state.old n))) state.old (mem_of ram.now marks.now w) state.new (mem_of ram.now marks.now result) }
 {
-    let s = voices::settings_by(regs, pmon, non, n);
-    let mut v = layout::voice(state, n);
-    let envelope = envelope_tick::tick(v.envelope, s.low, s.high);
+    let s = all.of(n);
+    let before = layout::voice(state, n);
+    let envelope = envelope_tick::tick(before.envelope, s.low, s.high);
     let position = Position {
         counter,
         index: (target - 28) as u8,
     };
-    v.envelope = envelope;
-    v.position = position;
-    let past = voice_block::end(size, v);
+    let stepped = Voice {
+        envelope,
+        position,
+        ..before
+    };
+    let past = voice_block::end(size, stepped);
     load(state, n, past, size, ram, marks, w)
 }
 
 // All voices play a tick, one after the other, each in document 01's five steps. Most stay in their block, on the fast path.
 fn play_all(
-    table: &[i16; 512],
-    regs: &[u16; 256],
-    pmon: u32,
-    non: u32,
-    steps: &[u16; 24],
+    table: &Table,
+    all: &AllSettings<'_>,
+    steps: &[Option<u16>; 24],
     size: u32,
     state: &mut [u16],
     level: u16,
@@ -113,40 +111,31 @@ fn play_all(
     marks: &[u8],
     w: Watch,
 ) -> AllPlayed
-    requires { (table.now ≡ factors) × Modulated regs.now pmon × Flags regs.now 0x194 non × Steps regs.now steps.now × Formed state.old × AllIn size (state_of state.old).voices × Lent size ram.now marks.now }
-    ensures { PlaysAll size regs.now level state.old (mem_of ram.now marks.now w) result.amplitudes state.new (mem_of ram.now marks.now result.watch) }
+    requires { Steps all.now.regs.now steps.now × Formed state.old × AllIn size (state_of state.old).voices × Lent size ram.now marks.now }
+    ensures { PlaysAll size all.now.regs.now level state.old (mem_of ram.now marks.now w) result.amplitudes state.new (mem_of ram.now marks.now result.watch) }
 {
     let mut amplitudes = [0i16; 24];
     let mut watch = w;
     let mut below = 0i16;
-    let mut n = 0usize;
-    while n < 24 {
+    for n in 0..24usize {
         if layout::is_idle(state, n) {
             below = 0;
             amplitudes[n] = 0;
-            n = n + 1;
             continue;
         }
         if !layout::loaded(state, n) {
             let v = layout::voice(state, n);
-            let seen = load(state, n, v, size, ram, marks, watch);
-            watch = seen;
+            watch = load(state, n, v, size, ram, marks, watch);
         }
-        let step = steps[n];
-        let m = fast_path::stay(table, regs, pmon, non, state, n, step, below, level);
+        let m = fast_path::stay(table, all, state, n, steps[n], below, level);
         below = m.amplitude;
         amplitudes[n] = below;
         if 27 < m.target {
-            let seen = pass_end(
-                regs, pmon, non, state, n, m.counter, m.target, size, ram, marks, watch,
-            );
-            watch = seen;
-            n = n + 1;
+            watch = pass_end(all, state, n, m.counter, m.target, size, ram, marks, watch);
             continue;
         }
         layout::put_position(state, n, m.counter, m.target as u16);
-        step_envelope(regs, pmon, non, state, n);
-        n = n + 1;
+        step_envelope(all, state, n);
     }
     AllPlayed { amplitudes, watch }
 }
@@ -156,22 +145,17 @@ fn begin(state: &[u16], regs: &[u16; 256], count: usize) -> Going
     requires { Formed state.now × InRange (state_of state.now) × (regs.now ≡ (state_of state.now).regs) }
     ensures { result ≡ begin_of (state_of state.now) count }
 {
-    let now_noise = layout::noise(state);
-    let control = layout::control(state);
-    let reverb = layout::reverb(state);
     let rest = Rest {
-        noise: now_noise,
-        applied: control.applied,
+        noise: layout::noise(state),
+        applied: layout::control(state).applied,
         capture: layout::capture(state),
-        reverb,
+        reverb: layout::reverb(state),
         tick: layout::tick(state),
     };
-    let noise = noise::tick(now_noise, registers::at(regs, 0x1AA));
-    let watch = layout::watch(state);
     Going {
         rest,
-        noise,
-        watch,
+        noise: noise::tick(rest.noise, registers::at(regs, 0x1AA)),
+        watch: layout::watch(state),
         irq: count,
         doubt: count,
     }
@@ -182,14 +166,12 @@ fn end(state: &mut [u16], r: Rest, w: Watch)
     requires { Formed state.old × (r.capture % 2 ≡ 0) × (r.reverb.place.0 % 2 ≡ 0) }
     ensures { Holds state.new (join_of (state_of state.old) (state_of state.old).voices r w) }
 {
-    let noise = r.noise;
-    let reverb = r.reverb;
     let control = Control {
         applied: r.applied,
         latch: w.latch,
         doubt: w.doubt,
     };
-    layout::put_rest(state, noise, control, r.capture, reverb, r.tick);
+    layout::put_rest(state, r.noise, control, r.capture, r.reverb, r.tick);
 }
 
 // One tick for each pair of the buffer out.
@@ -205,19 +187,16 @@ pub fn run(
 {
     let size = layout::size(state);
     let regs = layout::registers(state);
-    let table = gauss::table();
-    let pmon = voices::modulation(&regs);
-    let non = registers::flags(&regs, 0x194);
+    let table = Table::new();
+    let all = AllSettings::new(&regs);
     let volumes = voices_mix::volumes(&regs);
-    let steps = fast_path::steps(&regs, pmon, non);
+    let steps = fast_path::steps(&all);
     let count = out.len() / 2;
     let mut g = begin(state, &regs, count);
     for k in 0..count {
         let p = play_all(
             &table,
-            &regs,
-            pmon,
-            non,
+            &all,
             &steps,
             size,
             state,
@@ -226,14 +205,21 @@ pub fn run(
             marks,
             g.watch,
         );
-        let amplitudes = p.amplitudes;
-        let next = tick::finish(
-            &regs, size, g, &volumes, amplitudes, ram, marks, cd, out, k, p.watch,
+        g = tick::finish(
+            &regs,
+            size,
+            g,
+            &volumes,
+            p.amplitudes,
+            ram,
+            marks,
+            cd,
+            out,
+            k,
+            p.watch,
         );
-        g = next;
     }
-    let rest = g.rest;
-    end(state, rest, g.watch);
+    end(state, g.rest, g.watch);
     Reports {
         irq: g.irq,
         doubt: g.doubt,

@@ -81,52 +81,38 @@ pub fn key_on(size: u32, start: UnitAddress, low: u16, high: u16) -> Voice
     requires { 0 < size }
     ensures { result ≡ keyed_on size start low high }
 {
-    let mut v = Voice::fresh();
-    let envelope = envelope_tick::enter(Phase::Attack, v.envelope.level, low, high);
+    let fresh = Voice::fresh();
+    let envelope = envelope_tick::enter(Phase::Attack, fresh.envelope.level, low, high);
     let source = Source {
         address: soundram::address_of(size, start),
         repeat: start,
     };
-    v.envelope = envelope;
-    v.source = source;
-    v
+    Voice {
+        envelope,
+        source,
+        ..fresh
+    }
 }
 
 pub fn goes_off(phase: Phase) -> bool
     ensures { result ≡ goes_off phase }
 {
-    match phase {
-        Phase::Idle => false,
-        Phase::Attack => true,
-        Phase::Decay => true,
-        Phase::Sustain => true,
-        Phase::Release => false,
-        Phase::Off => false,
-    }
+    matches!(phase, Phase::Attack | Phase::Decay | Phase::Sustain)
 }
 
 pub fn key_off(v: Voice, low: u16, high: u16) -> Voice
     ensures { result ≡ keyed_off v low high }
 {
-    let e = v.envelope;
-    let phase = e.phase;
-    if goes_off(phase) {
-        let mut w = v;
-        w.envelope = envelope_tick::enter(Phase::Release, e.level, low, high);
-        return w;
+    if goes_off(v.envelope.phase) {
+        let envelope = envelope_tick::enter(Phase::Release, v.envelope.level, low, high);
+        return Voice { envelope, ..v };
     }
     v
 }
 
+// A voice in Off is not Idle: it still reads and moves.
 pub fn is_idle(phase: Phase) -> bool
     ensures { result ≡ is_idle phase }
 {
-    match phase {
-        Phase::Idle => true,
-        Phase::Attack => false,
-        Phase::Decay => false,
-        Phase::Sustain => false,
-        Phase::Release => false,
-        Phase::Off => false, // it still reads and moves
-    }
+    matches!(phase, Phase::Idle)
 }

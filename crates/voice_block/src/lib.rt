@@ -22,12 +22,8 @@ fn joined(before: [i16; 31], block: [i16; 28]) -> [i16; 31]
     ensures { result ≡ drop 28 before ++ block }
 {
     let mut out = [0i16; 31];
-    out[0] = before[28];
-    out[1] = before[29];
-    out[2] = before[30];
-    for i in 0..28usize {
-        out[i + 3] = block[i];
-    }
+    out[..3].copy_from_slice(&before[28..]);
+    out[3..].copy_from_slice(&block);
     out
 }
 
@@ -36,10 +32,9 @@ fn looped(s: Source, flags: u8) -> Source
     requires { s.address.0 < 0x80000 }
     ensures { result ≡ looped_of s flags }
 {
-    let address = s.address;
     if flags / 4 % 2 == 1 {
-        let repeat = soundram::unit_of(address);
-        return Source { address, repeat };
+        let repeat = soundram::unit_of(s.address);
+        return Source { repeat, ..s };
     }
     s
 }
@@ -59,10 +54,11 @@ fn fill(v: Voice, bytes: [u8; 16]) -> Voice
         flags,
         samples,
     };
-    let mut w = v;
-    w.playing = playing;
-    w.source = source;
-    w
+    Voice {
+        playing,
+        source,
+        ..v
+    }
 }
 
 // Loads the block at the voice's address.
@@ -71,10 +67,11 @@ pub fn fetch(v: Voice, who: Reader, size: u32, ram: &[u8], marks: &[u8], w: Watc
     ensures { Does (load_of who size v) (mem_of ram.now marks.now w) result.voice (mem_of ram.now marks.now result.watch) }
 {
     let b = access_block::load(ram, marks, who, size, v.source.address, w);
-    let bytes = b.bytes;
-    let voice = fill(v, bytes);
-    let watch = b.watch;
-    Loaded { voice, watch }
+    let voice = fill(v, b.bytes);
+    Loaded {
+        voice,
+        watch: b.watch,
+    }
 }
 
 // Where a voice goes past the last sample of a block with these flags.
@@ -82,13 +79,12 @@ fn next(size: u32, s: Source, flags: u8) -> Source
     requires { (s.address.0 < size) × (16 ≤ size) × (size ≤ 0x80000) }
     ensures { result ≡ next_of size s flags }
 {
-    let repeat = s.repeat;
-    if flags % 2 == 1 {
-        let address = soundram::address_of(size, repeat);
-        return Source { address, repeat };
-    }
-    let address = soundram::forward(size, s.address, 16);
-    Source { address, repeat }
+    let address = if flags % 2 == 1 {
+        soundram::address_of(size, s.repeat)
+    } else {
+        soundram::forward(size, s.address, 16)
+    };
+    Source { address, ..s }
 }
 
 // The envelope past the last sample of a block with these flags.
@@ -113,9 +109,10 @@ pub fn end(size: u32, v: Voice) -> Voice
     let flags = v.playing.flags;
     let envelope = muted(v.envelope, flags);
     let source = next(size, v.source, flags);
-    let mut w = v;
-    w.envelope = envelope;
-    w.source = source;
-    w.ended = v.ended | (flags % 2 == 1);
-    w
+    Voice {
+        envelope,
+        source,
+        ended: v.ended | (flags % 2 == 1),
+        ..v
+    }
 }

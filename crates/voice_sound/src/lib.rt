@@ -3,14 +3,14 @@
 
 ghost use Rattle.std.specs.Prelude.{◌≡◌, ◌≤◌, pos};
 ghost use Rattle.fixed.specs.Arithmetic.{product_of};
-ghost use Rattle.gauss.specs.Gauss.{table as factors};
 ghost use Rattle.voice.specs.Voice.{sound_of, amplitude_of};
 
+use gauss::Table;
 use voice::{Settings, Voice};
 
 // What the voice gives before its envelope: its samples, interpolated, or the noise.
-fn sound(table: &[i16; 512], s: Settings, level: u16, v: Voice) -> i16
-    requires { (table.now ≡ factors) × (v.position.index ≤ 27) }
+fn sound(table: &Table, s: Settings, level: u16, v: Voice) -> i16
+    requires { v.position.index ≤ 27 }
     ensures { result ≡ sound_of s level v }
 {
     if s.noise {
@@ -19,8 +19,7 @@ fn sound(table: &[i16; 512], s: Settings, level: u16, v: Voice) -> i16
     let i = gauss::index(v.position.counter);
     let samples = v.playing.samples;
     let k = v.position.index as usize;
-    gauss::interpolate(
-        table,
+    table.interpolate(
         i,
         samples[k],
         samples[k + 1],
@@ -38,8 +37,8 @@ pub fn scaled(x: i16, level: u16) -> i16
 }
 
 // The amplitude, with the envelope before its step.
-pub fn amplitude(table: &[i16; 512], s: Settings, level: u16, v: Voice) -> i16
-    requires { (table.now ≡ factors) × (v.position.index ≤ 27) × (v.envelope.level ≤ 0x7FFF) }
+pub fn amplitude(table: &Table, s: Settings, level: u16, v: Voice) -> i16
+    requires { (v.position.index ≤ 27) × (v.envelope.level ≤ 0x7FFF) }
     ensures { result ≡ amplitude_of s level v }
 {
     scaled(sound(table, s, level, v), v.envelope.level)

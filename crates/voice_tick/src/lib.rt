@@ -2,12 +2,12 @@
 #![tactic(auto)]
 
 ghost use Rattle.std.specs.Prelude.{◌≡◌, ◌≤◌, ◌<◌};
-ghost use Rattle.gauss.specs.Gauss.{table as factors};
 ghost use Rattle.soundram.specs.Address.{Lent};
 ghost use Rattle.soundram.specs.Program.{Does, mem_of};
 ghost use Rattle.voice.specs.Range.{InRange};
 ghost use Rattle.voice.specs.Voice.{ready_of, stepped_of, target_of, arrive_of, moves_of, tick_of};
 
+use gauss::Table;
 use soundram::{Reader, Watch};
 use voice::{Position, Settings, Voice};
 use voice_block::Loaded;
@@ -45,17 +45,17 @@ fn step(v: Voice, s: Settings, below: i16) -> Stepped
 {
     let envelope = envelope_tick::tick(v.envelope, s.low, s.high);
     let m = pitch::advance(v.position.counter, pitch::step(s.pitch, s.modulated, below));
-    let index = v.position.index;
     let position = Position {
         counter: m.counter,
-        index,
+        ..v.position
     };
-    let mut voice = v;
-    voice.envelope = envelope;
-    voice.position = position;
     Stepped {
-        voice,
-        target: index as u32 + m.moves,
+        voice: Voice {
+            envelope,
+            position,
+            ..v
+        },
+        target: v.position.index as u32 + m.moves,
     }
 }
 
@@ -64,22 +64,20 @@ fn arrive(v: Voice, i: u32, who: Reader, size: u32, ram: &[u8], marks: &[u8], w:
     requires { Lent size ram.now marks.now × (v.source.address.0 < size) × (i < 32) }
     ensures { Does (arrive_of who size i v) (mem_of ram.now marks.now w) result.voice (mem_of ram.now marks.now result.watch) }
 {
-    let counter = v.position.counter;
-    let mut x = v;
     if i <= 27 {
         let position = Position {
-            counter,
             index: i as u8,
+            ..v.position
         };
-        x.position = position;
-        return Loaded { voice: x, watch: w };
+        let voice = Voice { position, ..v };
+        return Loaded { voice, watch: w };
     }
     let position = Position {
-        counter,
         index: (i - 28) as u8,
+        ..v.position
     };
-    x.position = position;
-    voice_block::fetch(voice_block::end(size, x), who, size, ram, marks, w)
+    let past = Voice { position, ..v };
+    voice_block::fetch(voice_block::end(size, past), who, size, ram, marks, w)
 }
 
 fn moves(
@@ -101,7 +99,7 @@ fn moves(
 
 // One tick of voice n, with the table of interpolation. Below is the amplitude of the voice below it in this tick, level the noise's.
 pub fn tick(
-    table: &[i16; 512],
+    table: &Table,
     v: Voice,
     n: u8,
     size: u32,
@@ -112,12 +110,10 @@ pub fn tick(
     marks: &[u8],
     w: Watch,
 ) -> VoiceTick
-    requires { (table.now ≡ factors) × Lent size ram.now marks.now × InRange size v }
+    requires { Lent size ram.now marks.now × InRange size v }
     ensures { Does (tick_of (Reader.Voice n) size s below level v) (mem_of ram.now marks.now w) (record { voice = result.voice; amplitude = result.amplitude }) (mem_of ram.now marks.now result.watch) }
 {
-    let e = v.envelope;
-    let phase = e.phase;
-    if voice::is_idle(phase) {
+    if voice::is_idle(v.envelope.phase) {
         return VoiceTick {
             voice: v,
             amplitude: 0,
@@ -125,14 +121,20 @@ pub fn tick(
         };
     }
     let first = ready(v, Reader::Voice(n), size, ram, marks, w);
-    let x = first.voice;
-    let a = voice_sound::amplitude(table, s, level, x);
-    let last = moves(x, Reader::Voice(n), size, s, below, ram, marks, first.watch);
-    let voice = last.voice;
-    let watch = last.watch;
+    let amplitude = voice_sound::amplitude(table, s, level, first.voice);
+    let last = moves(
+        first.voice,
+        Reader::Voice(n),
+        size,
+        s,
+        below,
+        ram,
+        marks,
+        first.watch,
+    );
     VoiceTick {
-        voice,
-        amplitude: a,
-        watch,
+        voice: last.voice,
+        amplitude,
+        watch: last.watch,
     }
 }

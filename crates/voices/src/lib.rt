@@ -31,6 +31,41 @@ pub struct Sums {
     pub captured: Captured,
 }
 
+// What the registers say of all voices, with PMON and NON as one number each: of PMON without voice 0, which has none below it.
+#[derive(Clone, Copy)]
+pub struct AllSettings<'a> {
+    pub regs: &'a [u16; 256],
+    pub pmon: u32,
+    pub non: u32,
+    pub ghost modulated: { Modulated regs.now pmon },
+    pub ghost noisy: { Flags regs.now 0x194 non },
+}
+
+impl<'a> AllSettings<'a> {
+    pub fn new(regs: &'a [u16; 256]) -> AllSettings<'a>
+        ensures { result.regs.now ≡ regs.now }
+    {
+        AllSettings {
+            regs,
+            pmon: registers::flags(regs, 0x190) / 2 * 2,
+            non: registers::flags(regs, 0x194),
+        }
+    }
+
+    // The settings of voice n.
+    pub fn of(&self, n: usize) -> Settings
+        requires { n < 24 }
+        ensures { result ≡ settings_of self.now.regs.now n }
+    {
+        with_flags(
+            self.regs,
+            n,
+            registers::has(self.pmon, n),
+            registers::has(self.non, n),
+        )
+    }
+}
+
 // The settings of voice n with these flags.
 fn with_flags(regs: &[u16; 256], n: usize, modulated: bool, noise: bool) -> Settings
     requires { n < 24 }
@@ -43,19 +78,4 @@ fn with_flags(regs: &[u16; 256], n: usize, modulated: bool, noise: bool) -> Sett
         modulated,
         noise,
     }
-}
-
-// PMON as one number, without voice 0, which has none below it.
-pub fn modulation(regs: &[u16; 256]) -> u32
-    ensures { Modulated regs.now result }
-{
-    registers::flags(regs, 0x190) / 2 * 2
-}
-
-// The settings of voice n, where modulation and noise of all voices are at hand.
-pub fn settings_by(regs: &[u16; 256], pmon: u32, non: u32, n: usize) -> Settings
-    requires { (n < 24) × Modulated regs.now pmon × Flags regs.now 0x194 non }
-    ensures { result ≡ settings_of regs.now n }
-{
-    with_flags(regs, n, registers::has(pmon, n), registers::has(non, n))
 }

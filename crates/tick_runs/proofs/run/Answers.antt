@@ -14,10 +14,10 @@ loop-k-init c = running_none _ _ _ _ _ _ c.requires.0 c.requires.1 c.requires.2 
 pub play_all-p-requires : goal.play_all-p-requires
 play_all-p-requires c =
     let p = c.loop-k.invariant in
-    (c.table-table.ensures, c.modulation-pmon.ensures, c.flags-non.ensures, c.steps-steps.ensures, p.holds.formed, running_all p c.size-size.ensures, rw c.size-size.ensures p.lent)
+    (c.steps-steps.ensures, p.holds.formed, running_all p c.size-size.ensures, rw c.size-size.ensures p.lent)
 
-pub finish-next-requires : goal.finish-next-requires
-finish-next-requires c =
+pub finish-g-requires : goal.finish-g-requires
+finish-g-requires c =
     let p = c.loop-k.invariant in
     let h = c.loop-k-test.true in
     let e = p.len in
@@ -37,7 +37,7 @@ loop-k-smaller c =
 
 pub loop-k-preserved : goal.loop-k-preserved
 loop-k-preserved c =
-    running_more c.loop-k.invariant c.loop-k-test.true c.size-size.ensures c.registers-regs.ensures c.play_all-p.ensures c.finish-next.ensures
+    running_more c.loop-k.invariant c.loop-k-test.true c.size-size.ensures c.registers-regs.ensures (rw c.new-all.ensures at c.play_all-p.ensures) c.finish-g.ensures
 
 pub end-requires : goal.end-requires
 end-requires c = let p = c.loop-k.invariant in (p.holds.formed, p.range.capture.even, p.range.place.even)

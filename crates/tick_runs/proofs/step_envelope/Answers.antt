@@ -8,4 +8,4 @@ pub returns-then-is_active-wait : goal.returns-then-is_active-wait
 returns-then-is_active-wait c = waits_holds _ _ _ _ c.wait-wait.ensures c.is_active.ensures c.if-is_active-wait.true c.put_wait.ensures
 
 pub returns : goal.returns
-returns c = steps_holds _ _ c.settings_by-s.ensures c.envelope.ensures c.tick-e.ensures c.put_envelope.ensures
+returns c = steps_holds _ _ c.of-s.ensures c.envelope.ensures c.tick-e.ensures c.put_envelope.ensures

@@ -5,11 +5,10 @@ use Rattle.voice.proofs.Range.{moves_small}
 use Rattle.voice.proofs.Ticks.{stepped_voice, stepped_target}
 use Rattle.voice_tick.proofs.step.Goals as goal
 
-small : (c : goal.After-struct_known-1) → c.args.v.position.index + c.advance-m.result.moves < 32
-small c = search moves_small
-
 pub overflow_add-result : goal.overflow_add-result
-overflow_add-result c = let l = small c in record { fits = omega arith }
+overflow_add-result c =
+    let l : c.args.v.position.index + c.advance-m.result.moves < 32 = search moves_small in
+    record { fits = omega arith }
 
 pub returns : goal.returns
-returns c = (search (stepped_voice, to_z-of_z), search (stepped_target, to_z-of_z), small c)
+returns c = (search (stepped_voice, to_z-of_z), search (stepped_target, to_z-of_z), search moves_small)

@@ -7,8 +7,8 @@ use Rattle.voice_tick.proofs.tick.Goals as goal
 pub returns-then-is_idle : goal.returns-then-is_idle
 returns-then-is_idle c = search tick_idle
 
-pub amplitude-a-requires : goal.amplitude-a-requires
-amplitude-a-requires c = search (ready_index, ready_level)
+pub amplitude-amplitude-requires : goal.amplitude-amplitude-requires
+amplitude-amplitude-requires c = search (ready_index, ready_level)
 
 pub moves-last-requires : goal.moves-last-requires
 moves-last-requires c = search (ready_range, rules)

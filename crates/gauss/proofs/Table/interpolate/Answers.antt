@@ -9,7 +9,7 @@ use Rattle.fixed.proofs.Parts.{of_fits}
 use Rattle.fixed.proofs.Number.{Num, res_in, need, is, hold, add, sharp}
 use Rattle.gauss.specs.Gauss.{tap_of, interpolated_of}
 use Rattle.gauss.proofs.Rule.{fits16}
-use Rattle.gauss.proofs.interpolate.Goals as goal
+use Rattle.gauss.proofs.Table.interpolate.Goals as goal
 
 -- a tap of a parameter, which a call is handed as it is read back from its bits
 abbrev at : {r s : ℤ} (k : ℕ) → SFits w16 s → (r ≡ tap_of k (to_z w16 (of_z w16 s))) × In 0x59B3 0x59B2 r → Num

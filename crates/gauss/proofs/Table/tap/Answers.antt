@@ -1,6 +1,6 @@
 use mir.Syntax.{w32}
 use Rattle.fixed.proofs.Number.{Num, arg, res_in, prod, is, range, wide}
-use Rattle.gauss.proofs.tap.Goals as goal
+use Rattle.gauss.proofs.Table.tap.Goals as goal
 
 abbrev entry : goal.After-factor → Num
 entry c = res_in w32 c.factor.ensures.0 c.factor.ensures.1 tt

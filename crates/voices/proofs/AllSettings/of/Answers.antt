@@ -1,5 +1,5 @@
 use Rattle.voices.proofs.Settings.{settings_by_as}
-use Rattle.voices.proofs.settings_by.Goals as goal
+use Rattle.voices.proofs.AllSettings.of.Goals as goal
 
 pub returns : goal.returns
 returns c = search settings_by_as
