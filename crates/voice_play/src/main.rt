@@ -2,65 +2,242 @@
 // reference, reference/voice_play.py, which lists the same blocks and plays.
 #![tactic(auto)]
 
-ghost use Rattle.std.specs.Prelude.{◌≡◌, ◌<◌, IfOk};
-ghost use Rattle.gauss.specs.Gauss.{table as factors};
-ghost use Rattle.soundram.specs.Address.{Lent};
 ghost use Rattle.voice.specs.Range.{InRange};
 
+use gauss::Table;
 use soundram::{ByteAddress, UnitAddress, Watch};
 use std::io;
 use voice::{Settings, Voice};
 
 const SIZE: u32 = 0x10000;
 
-const ADDRESSES: [u32; 8] = [
-    0x1000, 0x1010, 0x2000, 0x2010, 0x2020, 0xFFF8, 0x4000, 0x4010,
+// A block is its header, its flags, and 14 bytes from the seed on.
+#[derive(Clone, Copy)]
+struct Block {
+    address: u16,
+    header: u8,
+    flags: u8,
+    seed: u8,
+}
+
+const BLOCKS: [Block; 8] = [
+    Block {
+        address: 0x1000,
+        header: 0x12,
+        flags: 0x00,
+        seed: 0x31,
+    },
+    Block {
+        address: 0x1010,
+        header: 0x25,
+        flags: 0x01,
+        seed: 0x77,
+    },
+    Block {
+        address: 0x2000,
+        header: 0x33,
+        flags: 0x04,
+        seed: 0x5A,
+    },
+    Block {
+        address: 0x2010,
+        header: 0x44,
+        flags: 0x02,
+        seed: 0xC3,
+    },
+    Block {
+        address: 0x2020,
+        header: 0x18,
+        flags: 0x03,
+        seed: 0x09,
+    },
+    Block {
+        address: 0xFFF8,
+        header: 0x09,
+        flags: 0x03,
+        seed: 0x88,
+    },
+    Block {
+        address: 0x4000,
+        header: 0x5D,
+        flags: 0x06,
+        seed: 0xE1,
+    },
+    Block {
+        address: 0x4010,
+        header: 0x70,
+        flags: 0x03,
+        seed: 0x42,
+    },
 ];
 
-const HEADERS: [u8; 8] = [0x12, 0x25, 0x33, 0x44, 0x18, 0x09, 0x5D, 0x70];
+#[derive(Clone, Copy)]
+enum How {
+    Plain,
+    Modulated,
+    Noise,
+    KeyOffAt30,
+}
 
-const FLAGS: [u8; 8] = [0x00, 0x01, 0x04, 0x02, 0x03, 0x03, 0x06, 0x03];
+#[derive(Clone, Copy)]
+struct Play {
+    name: &'static str,
+    start: u16,
+    pitch: u16,
+    low: u16,
+    high: u16,
+    ticks: u32,
+    how: How,
+}
 
-const SEEDS: [u8; 8] = [0x31, 0x77, 0x5A, 0xC3, 0x09, 0x88, 0xE1, 0x42];
-
-const STARTS: [u16; 14] = [
-    0x200, 0x400, 0x1FFF, 0x400, 0x400, 0x400, 0x400, 0x400, 0x400, 0x400, 0x800, 0x400, 0x600,
-    0x201,
+const PLAYS: [Play; 14] = [
+    Play {
+        name: "one_shot",
+        start: 0x200,
+        pitch: 0x1000,
+        low: 0x00FF,
+        high: 0x0000,
+        ticks: 70,
+        how: How::Plain,
+    },
+    Play {
+        name: "loop",
+        start: 0x400,
+        pitch: 0x2800,
+        low: 0x80C5,
+        high: 0x5FC0,
+        ticks: 120,
+        how: How::Plain,
+    },
+    Play {
+        name: "wrapped",
+        start: 0x1FFF,
+        pitch: 0x1000,
+        low: 0x000F,
+        high: 0x0000,
+        ticks: 40,
+        how: How::Plain,
+    },
+    Play {
+        name: "pitch_0",
+        start: 0x400,
+        pitch: 0x0000,
+        low: 0x2403,
+        high: 0x0000,
+        ticks: 8,
+        how: How::Plain,
+    },
+    Play {
+        name: "pitch_3fff",
+        start: 0x400,
+        pitch: 0x3FFF,
+        low: 0x000F,
+        high: 0x0000,
+        ticks: 40,
+        how: How::Plain,
+    },
+    Play {
+        name: "pitch_4000",
+        start: 0x400,
+        pitch: 0x4000,
+        low: 0x000F,
+        high: 0x0000,
+        ticks: 40,
+        how: How::Plain,
+    },
+    Play {
+        name: "pitch_4001",
+        start: 0x400,
+        pitch: 0x4001,
+        low: 0x000F,
+        high: 0x0000,
+        ticks: 20,
+        how: How::Plain,
+    },
+    Play {
+        name: "modulated",
+        start: 0x400,
+        pitch: 0x1000,
+        low: 0x000F,
+        high: 0x0000,
+        ticks: 60,
+        how: How::Modulated,
+    },
+    Play {
+        name: "glitch",
+        start: 0x400,
+        pitch: 0x9000,
+        low: 0x000F,
+        high: 0x0000,
+        ticks: 60,
+        how: How::Modulated,
+    },
+    Play {
+        name: "noise",
+        start: 0x400,
+        pitch: 0x1000,
+        low: 0x000F,
+        high: 0x0000,
+        ticks: 20,
+        how: How::Noise,
+    },
+    Play {
+        name: "filters",
+        start: 0x800,
+        pitch: 0x1800,
+        low: 0xA0FF,
+        high: 0xC1E5,
+        ticks: 90,
+        how: How::Plain,
+    },
+    Play {
+        name: "release",
+        start: 0x400,
+        pitch: 0x1000,
+        low: 0x000F,
+        high: 0x0021,
+        ticks: 60,
+        how: How::KeyOffAt30,
+    },
+    Play {
+        name: "unloaded",
+        start: 0x600,
+        pitch: 0x1000,
+        low: 0x000F,
+        high: 0x0000,
+        ticks: 40,
+        how: How::Plain,
+    },
+    Play {
+        name: "runs_out",
+        start: 0x201,
+        pitch: 0x3000,
+        low: 0x000F,
+        high: 0x0000,
+        ticks: 60,
+        how: How::Plain,
+    },
 ];
 
-const PITCHES: [u16; 14] = [
-    0x1000, 0x2800, 0x1000, 0, 0x3FFF, 0x4000, 0x4001, 0x1000, 0x9000, 0x1000, 0x1800, 0x1000,
-    0x1000, 0x3000,
-];
+const UNWATCHED: Watch = Watch {
+    armed: false,
+    halfword: 0,
+    latch: false,
+    doubt: false,
+};
 
-const LOWS: [u16; 14] = [
-    0x00FF, 0x80C5, 0x000F, 0x2403, 0x000F, 0x000F, 0x000F, 0x000F, 0x000F, 0x000F, 0xA0FF, 0x000F,
-    0x000F, 0x000F,
-];
-
-const HIGHS: [u16; 14] = [0, 0x5FC0, 0, 0, 0, 0, 0, 0, 0, 0, 0xC1E5, 0x0021, 0, 0];
-
-const TICKS: [u32; 14] = [70, 120, 40, 8, 40, 40, 20, 60, 60, 20, 90, 60, 40, 60];
+#[derive(Drop)]
+struct Memory {
+    ram: [u8; 65536],
+    marks: [u8; 4096],
+}
 
 // A voice between two ticks, and what its reads noticed.
 #[derive(Clone, Copy)]
 struct Played {
     voice: Voice,
     watch: Watch,
-}
-
-fn unwatched() -> Watch {
-    Watch {
-        armed: false,
-        halfword: 0,
-        latch: false,
-        doubt: false,
-    }
-}
-
-// A halfword of two bytes.
-fn halfword(low: u8, high: u8) -> u16 {
-    low as u16 + high as u16 * 256
+    ghost in_range: { InRange 0x10000 voice },
 }
 
 // The byte after another in a block's data.
@@ -68,91 +245,28 @@ fn after(x: u8) -> u8 {
     ((x as u32 * 5 + 17) % 256) as u8
 }
 
-fn block_at(k: usize) -> ByteAddress
-    requires { k < 8 }
-    ensures { result.0 < 0x10000 }
-{
-    ByteAddress(ADDRESSES[k] % SIZE)
-}
-
-// A block is its header, its flags, and 14 bytes from the seed on.
-fn put_block(ram: &mut [u8], marks: &mut [u8], k: usize)
-    requires { Lent 0x10000 ram.old marks.old × (k < 8) }
-{
-    let a = block_at(k);
-    let mut low = HEADERS[k];
-    let mut high = FLAGS[k];
-    let mut x = SEEDS[k];
+fn put_block(memory: &mut Memory, block: &Block) {
+    let first = ByteAddress(block.address as u32);
+    let mut low = block.header;
+    let mut high = block.flags;
+    let mut x = block.seed;
     for i in 0..8u32 {
-        let at = soundram::forward(SIZE, a, i * 2);
-        access::write(ram, marks, at, halfword(low, high), unwatched());
+        let at = soundram::forward(SIZE, first, i * 2);
+        let halfword = u16::from_le_bytes([low, high]);
+        access::write(&mut memory.ram, &mut memory.marks, at, halfword, UNWATCHED);
         low = x;
         high = after(low);
         x = after(high);
     }
 }
 
-fn put_blocks(ram: &mut [u8], marks: &mut [u8])
-    requires { Lent 0x10000 ram.old marks.old }
-{
-    for k in 0..8usize {
-        put_block(ram, marks, k);
-    }
-}
-
-fn settings(k: usize) -> Settings
-    requires { k < 14 }
-{
+fn settings(play: &Play) -> Settings {
     Settings {
-        pitch: PITCHES[k],
-        low: LOWS[k],
-        high: HIGHS[k],
-        modulated: (k == 7) | (k == 8),
-        noise: k == 9,
-    }
-}
-
-fn print_number(rt: &impl Print, n: u64, end: u8) -> io::Result<()> {
-    rt.print(n)?;
-    rt.write_all(&[end])
-}
-
-fn print_tick(
-    rt: &impl Print,
-    amplitude: i16,
-    level: u16,
-    ended: bool,
-    doubt: bool,
-) -> io::Result<()> {
-    let bits = fixed::to_bits(amplitude) as u64;
-    if bits < 0x8000 {
-        print_number(rt, bits, b' ')?;
-    } else {
-        rt.write_all(b"-")?;
-        print_number(rt, 0x10000 - bits, b' ')?;
-    }
-    print_number(rt, level as u64, b' ')?;
-    print_number(rt, ended as u64, b' ')?;
-    print_number(rt, doubt as u64, b'\n')
-}
-
-fn print_name(rt: &impl Print, k: usize) -> io::Result<()> {
-    rt.write_all(b"play ")?;
-    match k {
-        0 => rt.write_all(b"one_shot\n"),
-        1 => rt.write_all(b"loop\n"),
-        2 => rt.write_all(b"wrapped\n"),
-        3 => rt.write_all(b"pitch_0\n"),
-        4 => rt.write_all(b"pitch_3fff\n"),
-        5 => rt.write_all(b"pitch_4000\n"),
-        6 => rt.write_all(b"pitch_4001\n"),
-        7 => rt.write_all(b"modulated\n"),
-        8 => rt.write_all(b"glitch\n"),
-        9 => rt.write_all(b"noise\n"),
-        10 => rt.write_all(b"filters\n"),
-        11 => rt.write_all(b"release\n"),
-        12 => rt.write_all(b"unloaded\n"),
-        _ => rt.write_all(b"runs_out\n"),
+        pitch: play.pitch,
+        low: play.low,
+        high: play.high,
+        modulated: matches!(play.how, How::Modulated),
+        noise: matches!(play.how, How::Noise),
     }
 }
 
@@ -165,111 +279,76 @@ fn noise(t: u32) -> u16 {
     ((t % 1000 * 9973 + 5) % 0x10000) as u16
 }
 
-fn ticks_of(k: usize) -> u32
-    requires { k < 14 }
-{
-    TICKS[k]
-}
-
-fn start(k: usize) -> Played
-    requires { k < 14 }
-    ensures { InRange 0x10000 result.voice }
-{
-    let s = settings(k);
-    let voice = voice::key_on(SIZE, UnitAddress(STARTS[k]), s.low, s.high);
-    let watch = unwatched();
-    Played { voice, watch }
+fn start(play: &Play) -> Played {
+    Played {
+        voice: voice::key_on(SIZE, UnitAddress(play.start), play.low, play.high),
+        watch: UNWATCHED,
+    }
 }
 
 // Key off, in the play that has one.
-fn keyed(v: Voice, s: Settings, k: usize, t: u32) -> Voice
-    requires { InRange 0x10000 v }
-    ensures { InRange 0x10000 result }
-{
-    if (k == 11) & (t == 30) {
-        return voice::key_off(v, s.low, s.high);
+fn keyed(before: Played, play: &Play, t: u32) -> Played {
+    if matches!(play.how, How::KeyOffAt30) && t == 30 {
+        return Played {
+            voice: voice::key_off(before.voice, play.low, play.high),
+            watch: before.watch,
+        };
     }
-    v
+    before
 }
 
-// Tick t, and its line.
+// Tick t of a play, and its line.
 fn tick(
     rt: &impl Print,
-    table: &[i16; 512],
-    v: Voice,
-    w: Watch,
-    s: Settings,
+    table: &Table,
+    before: Played,
+    play: &Play,
     t: u32,
-    ram: &[u8],
-    marks: &[u8],
-) -> io::Result<Played>
-    requires { (table.now ≡ factors) × Lent 0x10000 ram.now marks.now × InRange 0x10000 v }
-    ensures { IfOk result (λ p. InRange 0x10000 p.voice) }
-{
-    let r = voice_tick::tick(table, v, 0, SIZE, s, below(t), noise(t), ram, marks, w);
-    let voice = r.voice;
-    let watch = r.watch;
-    print_tick(
-        rt,
-        r.amplitude,
-        voice.envelope.level,
-        voice.ended,
-        watch.doubt,
-    )?;
-    Ok(Played { voice, watch })
-}
-
-// Tick t of play k.
-fn turn(
-    rt: &impl Print,
-    table: &[i16; 512],
-    p: Played,
-    k: usize,
-    t: u32,
-    ram: &[u8],
-    marks: &[u8],
-) -> io::Result<Played>
-    requires { (table.now ≡ factors) × Lent 0x10000 ram.now marks.now × InRange 0x10000 p.voice × (k < 14) }
-    ensures { IfOk result (λ q. InRange 0x10000 q.voice) }
-{
-    let s = settings(k);
-    tick(
-        rt,
+    memory: &Memory,
+) -> io::Result<Played> {
+    let Played { voice, watch } = keyed(before, play, t);
+    let r = voice_tick::tick(
         table,
-        keyed(p.voice, s, k, t),
-        p.watch,
-        s,
-        t,
-        ram,
-        marks,
-    )
+        voice,
+        0,
+        SIZE,
+        settings(play),
+        below(t),
+        noise(t),
+        &memory.ram,
+        &memory.marks,
+        watch,
+    );
+    println!(rt;
+        "{} {} {} {}",
+        r.amplitude, r.voice.envelope.level, r.voice.ended as u8, r.watch.doubt as u8
+    )?;
+    Ok(Played {
+        voice: r.voice,
+        watch: r.watch,
+    })
 }
 
-fn play(rt: &impl Print, table: &[i16; 512], ram: &[u8], marks: &[u8], k: usize) -> io::Result<()>
-    requires { (table.now ≡ factors) × Lent 0x10000 ram.now marks.now × (k < 14) }
-{
-    print_name(rt, k)?;
-    let mut p = start(k);
-    let ticks = ticks_of(k);
-    for t in 0..ticks {
-        p = turn(rt, table, p, k, t, ram, marks)?;
-    }
-    Ok(())
-}
-
-fn plays(rt: &impl Print, table: &[i16; 512], ram: &[u8], marks: &[u8]) -> io::Result<()>
-    requires { (table.now ≡ factors) × Lent 0x10000 ram.now marks.now }
-{
-    for k in 0..14usize {
-        play(rt, table, ram, marks, k)?;
+fn run(rt: &impl Print, table: &Table, play: &Play, memory: &Memory) -> io::Result<()> {
+    println!(rt; "play {}", play.name)?;
+    let mut played = start(play);
+    for t in 0..play.ticks {
+        played = tick(rt, table, played, play, t, memory)?;
     }
     Ok(())
 }
 
 fn main(rt: HostRuntime) -> io::Result<()> {
-    let mut ram = [0u8; 65536];
-    let mut marks = [0u8; 4096];
-    put_blocks(&mut ram, &mut marks);
-    let table = gauss::table();
-    plays(&rt, &table, &ram, &marks)
+    let mut memory = Memory {
+        ram: [0; 65536],
+        marks: [0; 4096],
+    };
+    for block in &BLOCKS {
+        put_block(&mut memory, block);
+    }
+    let table = Table::new();
+    for play in &PLAYS {
+        run(&rt, &table, play, &memory)?;
+    }
+    Ok(())
 }
