@@ -1,17 +1,15 @@
 use mathlib.Core.Path.{◌∙◌, ap}
-use mir.Syntax.{w32}
-use Rattle.fixed.specs.Signed.{bits_of}
-use Rattle.fixed.proofs.Number.{Num, arg, need, is, hold, range, wide}
+use mir.Syntax.{w16}
+use mir.Val.{of_z}
+use mir.Facts.{to_z-of_z}
+use native.Mathlib.Omega.{arith}
+use Rattle.fixed.proofs.Parts.{of_fits}
+use Rattle.fixed.proofs.TwosComplement.{cast_unsigned_is}
 use Rattle.fixed.proofs.to_bits.Goals as goal
 
-abbrev number : goal.Start → Num
-number c = arg c.ranges.s
-
-pub overflow_cast-s : goal.overflow_cast-s
-overflow_cast-s c = need (number c) tt
-
-pub low16-requires : goal.low16-requires
-low16-requires c = wide (range (hold w32 (number c) tt)) tt
-
 pub returns : goal.returns
-returns c = c.low16.ensures ∙ ap (bits_of 16) (is (hold w32 (number c.before) tt))
+returns c =
+    let i = of_fits w16 c.args.s c.ranges.s in
+    let t = i.top in
+    let d = i.low in
+    c.cast_unsigned.ensures ∙ ap (of_z w16) (to_z-of_z c.ranges.s) ∙ cast_unsigned_is c.args.s (omega arith) (omega arith)
