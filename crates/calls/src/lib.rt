@@ -1,38 +1,66 @@
-// The calls on a state in the buffer that a caller lends: what each is, and the numbers that they share. The crates over this one are the calls, which
-// host/tenonwhisk.h declares.
+// The calls on a state in the buffer that a caller lends: what each is, why they refuse, and the tests that they share. The crates over this one are the calls,
+// which host/tenonwhisk.h declares.
 #![tactic(auto)]
 
-ghost use Rattle.std.specs.Prelude.{◌≡◌, [], ◌∷◌};
+ghost use Rattle.std.specs.Prelude.{◌≡◌, [], ◌∷◌, ◌<◌};
 ghost use Rattle.layout.specs.Layout.{state_of, is_state};
 ghost use Rattle.spu.specs.Step.{outside, lent_tests};
 ghost use Rattle.calls.specs.Kept.{tested_of};
+ghost use Rattle.calls.specs.Refusals.{number_of, answered};
 
-// 2 for a buffer that is not a state, or 0.
-pub fn state_number(state: &[u16]) -> u8
-    ensures { result ≡ tested_of state.now (outside (is_state state.now) ∷ []) }
-{
-    if !range_check::is_tagged(state) {
-        return 2;
-    }
-    if !range_check::check(state) {
-        return 2;
-    }
-    0
+// Why a call is refused, with the number that hosts get.
+#[derive(Clone, Copy, Debug, PartialEq, Eq)]
+pub enum Refusal {
+    // RAM or marks of another length than the state's L asks.
+    OtherLength = 1,
+    // A buffer that is not a state.
+    NotAState = 2,
+    UnlistedOffset = 3,
+    ReadOnly = 4,
+    // A register or a value that is not carried.
+    NotCarried = 5,
+    OtherMode = 6,
+    BadCount = 7,
+    BadBlock = 8,
+    UndocumentedBits = 11,
+    // A run's buffers of lengths that do not fit one another.
+    BadBuffers = 25,
 }
 
-// 1 or 2, or 0 if neither applies. ram and marks are the lengths of what is lent.
-pub fn lent_number(state: &[u16], ram: usize, marks: usize) -> u8
-    ensures { result ≡ tested_of state.now (lent_tests (is_state state.now) (state_of state.now) ram marks []) }
+impl Refusal {
+    pub fn number(self) -> u8
+        ensures { result ≡ number_of self }
+    {
+        self as u8
+    }
+}
+
+// Whether a state stands in the buffer.
+pub fn check_state(state: &[u16]) -> Result<(), Refusal>
+    ensures { answered result ≡ tested_of state.now (outside (is_state state.now) ∷ []) }
 {
     if !range_check::is_tagged(state) {
-        return 2;
+        return Err(Refusal::NotAState);
+    }
+    if !range_check::check(state) {
+        return Err(Refusal::NotAState);
+    }
+    Ok(())
+}
+
+// Whether a state stands in the buffer, and what is lent beside it has the lengths that its L asks: ram and marks.
+pub fn check_lent(state: &[u16], ram: usize, marks: usize) -> Result<(), Refusal>
+    ensures { answered result ≡ tested_of state.now (lent_tests (is_state state.now) (state_of state.now) ram marks []) }
+{
+    if !range_check::is_tagged(state) {
+        return Err(Refusal::NotAState);
     }
     let size = layout::size(state) as usize;
     if (ram != size) | (marks != size / 16) {
-        return 1;
+        return Err(Refusal::OtherLength);
     }
     if !range_check::check(state) {
-        return 2;
+        return Err(Refusal::NotAState);
     }
-    0
+    Ok(())
 }

@@ -36,12 +36,12 @@ module _ (xs : List ℕ) (ts : List Test) {n : ℕ} (e : n ≡ tested_of xs (out
   good_state z f = tested_on xs _ _ e z (λ q. later _ 2 _ (passed_first _ 1 _ (sym q ∙ z)) f)
 
 -- the test of the offset, which register calls make next: b is the code's
-module _ (xs : List ℕ) (offset : ℕ) (ts : List Test) {n : ℕ} (e : n ≡ tested_of xs (outside (is_state xs) ∷ [])) (z : n ≡ 0) {b : Bool} (p : b ≡ listed offset) where
+module _ (xs : List ℕ) (offset : ℕ) (ts : List Test) (e : 0 ≡ tested_of xs (outside (is_state xs) ∷ [])) {b : Bool} (p : b ≡ listed offset) where
   pub unlisted : not b ≡ true → 3 ≡ tested_of xs (outside (is_state xs) ∷ test (not (listed offset)) 3 ∷ ts)
-  unlisted f = good_state xs _ e z (here _ 3 _ (rw (← p) f))
+  unlisted f = good_state xs _ e refl (here _ 3 _ (rw (← p) f))
 
   pub carried : {m : ℕ} → not b ≡ false → m ≡ first_of ts → m ≡ tested_of xs (outside (is_state xs) ∷ test (not (listed offset)) 3 ∷ ts)
-  carried f g = good_state xs _ e z (later _ 3 _ (rw (← p) f) g)
+  carried f g = good_state xs _ e refl (later _ 3 _ (rw (← p) f) g)
 
 -- the others of a write: c, u and d are the code's tests
 module _ (offset v : ℕ) where

@@ -2,7 +2,7 @@
 use mathlib.Core.Path.{◌≡◌, refl, sym, ◌∙◌}
 use mathlib.Core.Bool.{Bool, true, false, cond, not, ◌||◌}
 use mathlib.Core.List.{List, [], ◌∷◌}
-use Prim.Native.Nat.{ℕ, suc, ◌+◌, ◌-◌, ◌%◌, ◌≤◌}
+use Prim.Native.Nat.{ℕ, ◌+◌, ◌-◌, ◌%◌, ◌≤◌}
 use native.Mathlib.Omega.{arith}
 use borrow.Author.Tests.{eqb-true, ltb-false, not-false, ne_eqb, eq-eqb}
 use lib.Dec.{eqb, ltb}
@@ -60,12 +60,9 @@ module _ (xs ram : List ℕ) (a : ℕ) where
   abbrev Views : ℕ → Type 0
   Views n = (n ≡ number_in (view a) xs (length ram) 0) × ((marks : List ℕ) → Keeps (view a) xs ram marks (viewed n (view_length n)) false false xs ram marks)
 
-  pub view_no : (n : ℕ) → suc n ≡ number_in (view a) xs (length ram) 0 → Views (suc n)
+  pub view_no : {n : ℕ} → n ≡ number_in (view a) xs (length ram) 0 → (n ≡ 0 → ⊥) → Views n
   unfolding refused_of
-  view_no n e = (e, λ marks. rw (ne_eqb (suc n) 0 no) (kept_refused (view a) xs ram marks (e ∙ view_same (length marks)) no))
-    where
-      no : suc n ≡ 0 → ⊥
-      no q = omega arith
+  view_no {n} e z = (e, λ marks. rw (ne_eqb n 0 z) (kept_refused (view a) xs ram marks (e ∙ view_same (length marks)) z))
 
   pub view_yes : 0 ≡ number_in (view a) xs (length ram) 0 → Halfwords xs → Views 0
   unfolding accepted_of

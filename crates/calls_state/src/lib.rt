@@ -6,6 +6,9 @@ ghost use Rattle.chip.specs.State.{fresh_of, size_ok};
 ghost use Rattle.layout.specs.Layout.{state_length, Holds};
 ghost use Rattle.spu.specs.Step.{written, value as valued, made, viewed, looked, write as writing, read as reading, reset as resetting, view, status as looking};
 ghost use Rattle.calls.specs.Kept.{number_in, Keeps, KeepsStill, make_of, view_of, view_length};
+ghost use Rattle.calls.specs.Refusals.{answered};
+
+use calls::Refusal;
 
 #[repr(C)]
 #[derive(Clone, Copy)]
@@ -46,23 +49,21 @@ pub extern "C" fn tenonwhisk_make(size: u32, state: &mut [u16]) -> u8
 pub extern "C" fn tenonwhisk_reset(state: &mut [u16]) -> u8
     ensures { KeepsStill resetting state.old (made result) state.new }
 {
-    let number = calls::state_number(state);
-    if number != 0 {
-        return number;
+    if let Err(refusal) = calls::check_state(state) {
+        return refusal.number();
     }
     let size = layout::size(state);
     layout::fresh(state, size);
-    number
+    0
 }
 
 #[unsafe(no_mangle)]
 pub extern "C" fn tenonwhisk_status(state: &[u16]) -> Status
     ensures { KeepsStill looking state.now (looked result.number result.doubt result.size result.tick) state.now }
 {
-    let number = calls::state_number(state);
-    if number != 0 {
+    if let Err(refusal) = calls::check_state(state) {
         return Status {
-            number,
+            number: refusal.number(),
             doubt: false,
             size: 0,
             tick: 0,
@@ -70,73 +71,90 @@ pub extern "C" fn tenonwhisk_status(state: &[u16]) -> Status
     }
     let control = layout::control(state);
     Status {
-        number,
+        number: 0,
         doubt: control.doubt,
         size: layout::size(state),
         tick: layout::tick(state),
     }
 }
 
-fn write_number(state: &[u16], offset: u32, value: u16) -> u8
-    ensures { result ≡ number_in (writing offset value) state.now 0 0 }
+fn check_write(state: &[u16], offset: u32, value: u16) -> Result<(), Refusal>
+    ensures { answered result ≡ number_in (writing offset value) state.now 0 0 }
 {
-    let number = calls::state_number(state);
-    if number != 0 {
-        return number;
-    }
+    calls::check_state(state)?;
     if !registers::listed(offset) {
-        return 3;
+        return Err(Refusal::UnlistedOffset);
     }
     if registers::read_only(offset) {
-        return 4;
+        return Err(Refusal::ReadOnly);
     }
     if registers::undocumented(offset, value) {
-        return 11;
+        return Err(Refusal::UndocumentedBits);
     }
     if registers::not_written(offset, value) {
-        return 5;
+        return Err(Refusal::NotCarried);
     }
-    0
+    Ok(())
 }
 
 #[unsafe(no_mangle)]
 pub extern "C" fn tenonwhisk_write(state: &mut [u16], offset: u32, value: u16) -> u8
     ensures { KeepsStill (writing offset value) state.old (written result) state.new }
 {
-    let number = write_number(state, offset, value);
-    if number != 0 {
-        return number;
+    if let Err(refusal) = check_write(state, offset, value) {
+        return refusal.number();
     }
     register_write::write(state, offset, value);
-    number
+    0
 }
 
-fn read_number(state: &[u16], offset: u32) -> u8
-    ensures { result ≡ number_in (reading offset) state.now 0 0 }
+fn check_read(state: &[u16], offset: u32) -> Result<(), Refusal>
+    ensures { answered result ≡ number_in (reading offset) state.now 0 0 }
 {
-    let number = calls::state_number(state);
-    if number != 0 {
-        return number;
-    }
+    calls::check_state(state)?;
     if !registers::listed(offset) {
-        return 3;
+        return Err(Refusal::UnlistedOffset);
     }
     if offset == 0x1A8 {
-        return 5;
+        return Err(Refusal::NotCarried);
     }
-    0
+    Ok(())
 }
 
 #[unsafe(no_mangle)]
 pub extern "C" fn tenonwhisk_read(state: &[u16], offset: u32) -> Reading
     ensures { KeepsStill (reading offset) state.now (valued result.number result.value) state.now }
 {
-    let number = read_number(state, offset);
-    if number != 0 {
-        return Reading { number, value: 0 };
+    if let Err(refusal) = check_read(state, offset) {
+        return Reading {
+            number: refusal.number(),
+            value: 0,
+        };
     }
-    let value = register_read::read(state, offset);
-    Reading { number, value }
+    Reading {
+        number: 0,
+        value: register_read::read(state, offset),
+    }
+}
+
+// Whether there is a block view at an address; ram is the length of sound RAM.
+fn check_view(state: &[u16], ram: usize, address: u32) -> Result<(), Refusal>
+    ensures { answered result ≡ number_in (view address) state.now ram 0 }
+{
+    if !range_check::is_tagged(state) {
+        return Err(Refusal::NotAState);
+    }
+    let size = layout::size(state);
+    if ram != size as usize {
+        return Err(Refusal::OtherLength);
+    }
+    if !range_check::check(state) {
+        return Err(Refusal::NotAState);
+    }
+    if (address % 8 != 0) | (size - 16 < address) {
+        return Err(Refusal::BadBlock);
+    }
+    Ok(())
 }
 
 // The number that the block view gives at an address.
@@ -144,30 +162,21 @@ pub extern "C" fn tenonwhisk_read(state: &[u16], offset: u32) -> Reading
 pub extern "C" fn tenonwhisk_view_number(state: &[u16], ram: &[u8], address: u32) -> u8
     ensures { (result ≡ number_in (view address) state.now (length ram.now) 0) × ((marks : List ℕ) → Keeps (view address) state.now ram.now marks (viewed result (view_length result)) false false state.now ram.now marks) }
 {
-    if !range_check::is_tagged(state) {
-        return 2;
+    match check_view(state, ram.len(), address) {
+        Ok(()) => 0,
+        Err(refusal) => refusal.number(),
     }
-    let size = layout::size(state);
-    if ram.len() != size as usize {
-        return 1;
-    }
-    if !range_check::check(state) {
-        return 2;
-    }
-    if (address % 8 != 0) | (size - 16 < address) {
-        return 8;
-    }
-    0
 }
 
 // The sixteen bytes of the block there, in the caller's own RAM; none if the view is refused.
 pub fn block_view<'a>(state: &[u16], ram: &'a [u8], address: u32) -> &'a [u8]
     ensures { result.now ≡ view_of state.now ram.now address }
 {
-    let number = tenonwhisk_view_number(state, ram, address);
-    if number != 0 {
-        return &ram[0..0];
+    match check_view(state, ram.len(), address) {
+        Ok(()) => {
+            let a = address as usize;
+            &ram[a..a + 16]
+        }
+        Err(_) => &[],
     }
-    let a = address as usize;
-    &ram[a..a + 16]
 }

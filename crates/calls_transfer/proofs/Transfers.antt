@@ -26,21 +26,18 @@ use Rattle.calls.specs.Kept.{tested_of, number_in, Keeps}
 use Rattle.calls.proofs.Kept.{kept_refused, kept_works, works_in_range, tested_all, lent_good}
 use Rattle.calls_transfer.specs.declared.Moved.{Moved}
 
--- ---- a transfer's own tests: b is the code's test of the count
+-- ---- a transfer's own tests: m is the code's test of the mode, b its test of the count
 
-module _ (wrong : Bool) (n : ℕ) where
-  pub move_6 : wrong ≡ true → 6 ≡ first_of (move_tests wrong n)
-  move_6 t = here _ 6 _ t
+module _ {m wrong : Bool} (n : ℕ) (e : m ≡ wrong) where
+  pub move_6 : m ≡ true → 6 ≡ first_of (move_tests wrong n)
+  move_6 t = here _ 6 _ (sym e ∙ t)
 
-  pub move_7 : {b : Bool} → wrong ≡ false → b ≡ bad_count n → b ≡ true → 7 ≡ first_of (move_tests wrong n)
-  move_7 t f u = later _ 6 _ t (here _ 7 _ (rw (← f) u))
+  module _ (t : m ≡ false) {b : Bool} (f : b ≡ bad_count n) where
+    pub move_7 : b ≡ true → 7 ≡ first_of (move_tests wrong n)
+    move_7 u = later _ 6 _ (sym e ∙ t) (here _ 7 _ (rw (← f) u))
 
-  pub move_0 : {b : Bool} → wrong ≡ false → b ≡ bad_count n → b ≡ false → 0 ≡ first_of (move_tests wrong n)
-  move_0 t f u = later _ 6 _ t (later _ 7 _ (rw (← f) u) none)
-
--- b is the code's test of the mode
-pub move_by : (w : Bool) (k : ℕ) {b : Bool} {n : ℕ} → b ≡ w → n ≡ first_of (move_tests b k) → n ≡ first_of (move_tests w k)
-move_by w k e f = rw e at f
+    pub move_0 : b ≡ false → 0 ≡ first_of (move_tests wrong n)
+    move_0 u = later _ 6 _ (sym e ∙ t) (later _ 7 _ (rw (← f) u) none)
 
 -- ---- what an accepted transfer may rely on
 

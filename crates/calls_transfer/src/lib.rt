@@ -4,11 +4,21 @@
 ghost use Rattle.std.specs.Prelude.{◌≡◌, false, ◌&&◌, not, ◌%◌, length};
 ghost use Rattle.chip.specs.State.{with_transfer, watched_of};
 ghost use Rattle.layout.specs.Layout.{state_length, state_of, is_state, Formed, Holds, Halfwords};
-ghost use Rattle.spu.specs.Step.{moved, moved_out, transfer_in, transfer_out, first_of, bad_count, not_inward, not_outward, lent_tests, move_tests};
+ghost use Rattle.spu.specs.Step.{moved, moved_out, transfer_in, transfer_out, bad_count, lent_tests, move_tests};
 ghost use Rattle.calls.specs.Kept.{tested_of, Keeps};
+ghost use Rattle.calls.specs.Refusals.{number_of, answered};
+ghost use Rattle.calls_transfer.specs.Direction.{other_mode};
 
+use calls::Refusal;
 use soundram::Watch;
 use transfer::Moved as Ended;
+
+// Which way halfwords move.
+#[derive(Clone, Copy)]
+enum Direction {
+    Inward,
+    Outward,
+}
 
 // What a transfer gives: how many halfwords moved.
 #[repr(C)]
@@ -26,65 +36,42 @@ fn bad_count(n: usize) -> bool
     (n == 0) | (32 < n)
 }
 
-// Whether the transfer mode is another.
-
-fn not_inward(state: &[u16]) -> bool
+fn is_other_mode(state: &[u16], direction: Direction) -> bool
     requires { length state.now ≡ state_length }
-    ensures { result ≡ not_inward (state_of state.now) }
+    ensures { result ≡ other_mode direction (state_of state.now) }
 {
-    let c = layout::control(state);
-    let mode = c.applied / 16 % 4;
-    !((mode == 1) | (mode == 2))
+    let mode = layout::control(state).applied / 16 % 4;
+    match direction {
+        Direction::Inward => !((mode == 1) | (mode == 2)),
+        Direction::Outward => mode != 3,
+    }
 }
 
-fn not_outward(state: &[u16]) -> bool
-    requires { length state.now ≡ state_length }
-    ensures { result ≡ not_outward (state_of state.now) }
+// Whether a transfer may be made; ram, marks and count are the lengths of what is lent and of what moves.
+fn check(
+    state: &[u16],
+    direction: Direction,
+    ram: usize,
+    marks: usize,
+    count: usize,
+) -> Result<(), Refusal>
+    ensures { answered result ≡ tested_of state.now (lent_tests (is_state state.now) (state_of state.now) ram marks (move_tests (other_mode direction (state_of state.now)) count)) }
 {
-    let c = layout::control(state);
-    c.applied / 16 % 4 != 3
-}
-
-// 6 or 7, or 0 if neither applies.
-fn move_number(wrong: bool, count: usize) -> u8
-    ensures { result ≡ first_of (move_tests wrong count) }
-{
-    if wrong {
-        return 6;
+    calls::check_lent(state, ram, marks)?;
+    if is_other_mode(state, direction) {
+        return Err(Refusal::OtherMode);
     }
     if bad_count(count) {
-        return 7;
+        return Err(Refusal::BadCount);
     }
-    0
+    Ok(())
 }
 
-// The number of a transfer. ram, marks and count are the lengths of what is lent and of what moves.
-
-fn in_number(state: &[u16], ram: usize, marks: usize, count: usize) -> u8
-    ensures { result ≡ tested_of state.now (lent_tests (is_state state.now) (state_of state.now) ram marks (move_tests (not_inward (state_of state.now)) count)) }
-{
-    let number = calls::lent_number(state, ram, marks);
-    if number != 0 {
-        return number;
-    }
-    move_number(not_inward(state), count)
-}
-
-fn out_number(state: &[u16], ram: usize, marks: usize, count: usize) -> u8
-    ensures { result ≡ tested_of state.now (lent_tests (is_state state.now) (state_of state.now) ram marks (move_tests (not_outward (state_of state.now)) count)) }
-{
-    let number = calls::lent_number(state, ram, marks);
-    if number != 0 {
-        return number;
-    }
-    move_number(not_outward(state), count)
-}
-
-fn refused(number: u8) -> Moved
-    ensures { result ≡ record { number = number; irq = false; doubt = false; count = 0 } }
+fn refused(refusal: Refusal) -> Moved
+    ensures { result ≡ record { number = number_of refusal; irq = false; doubt = false; count = 0 } }
 {
     Moved {
-        number,
+        number: refusal.number(),
         irq: false,
         doubt: false,
         count: 0,
@@ -116,9 +103,14 @@ pub extern "C" fn tenonwhisk_transfer_in(
 ) -> Moved
     ensures { Keeps (transfer_in values.now) state.old ram.old marks.old (moved result.number result.count) result.irq result.doubt state.new ram.new marks.new }
 {
-    let number = in_number(state, ram.len(), marks.len(), values.len());
-    if number != 0 {
-        return refused(number);
+    if let Err(refusal) = check(
+        state,
+        Direction::Inward,
+        ram.len(),
+        marks.len(),
+        values.len(),
+    ) {
+        return refused(refusal);
     }
     let count = values.len() as u32;
     let size = layout::size(state);
@@ -138,9 +130,8 @@ pub extern "C" fn tenonwhisk_transfer_out(
 ) -> Moved
     ensures { Keeps (transfer_out out.old) state.old ram.now marks.now (moved_out result.number result.count out.new) result.irq result.doubt state.new ram.now marks.now }
 {
-    let number = out_number(state, ram.len(), marks.len(), out.len());
-    if number != 0 {
-        return refused(number);
+    if let Err(refusal) = check(state, Direction::Outward, ram.len(), marks.len(), out.len()) {
+        return refused(refusal);
     }
     let count = out.len() as u32;
     let size = layout::size(state);

@@ -1,11 +1,13 @@
+use mathlib.Core.Path.{refl}
+use Rattle.calls.proofs.Refused.{numbered}
 use Rattle.calls_state.proofs.Views.{view_inside, view_none, view_some}
 use Rattle.calls_state.proofs.block_view.Goals as goal
 
-pub returns-then-number-ne0 : goal.returns-then-number-ne0
-returns-then-number-ne0 c = view_none _ _ _ c.tenonwhisk_view_number-number.ensures.0 c.if-number-ne0.true
+pub returns-in-Err : goal.returns-in-Err
+returns-in-Err c = view_none _ _ _ c.in-Err.ensures (numbered _ refl)
 
-pub slice_bounds-result-end-2 : goal.slice_bounds-result-end-2
-slice_bounds-result-end-2 c = view_inside _ _ _ c.tenonwhisk_view_number-number.ensures.0 c.if-number-ne0.false
+pub slice_bounds-result-end : goal.slice_bounds-result-end
+slice_bounds-result-end c = view_inside _ _ _ c.in-Ok.ensures refl
 
-pub returns : goal.returns
-returns c = view_some _ _ _ c.tenonwhisk_view_number-number.ensures.0 c.if-number-ne0.false
+pub returns-in-Ok : goal.returns-in-Ok
+returns-in-Ok c = view_some _ _ _ c.in-Ok.ensures refl

@@ -1,33 +1,10 @@
-use mathlib.Core.Path.{ap}
-use mathlib.Core.Bool.{not}
-use Rattle.layout.proofs.Laws.{tagged_length}
-use Rattle.calls.proofs.Kept.{tagged_is}
-use Rattle.calls_state.proofs.Views.{view_untagged, view_1, view_2, view_sized, view_8, view_0, view_no, view_yes}
+use mathlib.Core.Path.{◌∙◌}
+use Rattle.calls.proofs.Refused.{numbered}
+use Rattle.calls_state.proofs.Views.{view_no, view_yes}
 use Rattle.calls_state.proofs.tenonwhisk_view_number.Goals as goal
 
-pub returns-then-not-is_tagged : goal.returns-then-not-is_tagged
-returns-then-not-is_tagged c = view_no _ _ _ 1 (view_untagged _ _ _ c.is_tagged.ensures (ap not c.if-not-is_tagged.true))
+pub returns-in-Ok : goal.returns-in-Ok
+returns-in-Ok c = view_yes _ _ _ c.in-Ok.ensures (record { each = λ i. (c.shared_slice_known-1.given i).fits })
 
-pub size-size-requires : goal.size-size-requires
-size-size-requires c = tagged_length _ (tagged_is _ c.is_tagged.ensures (ap not c.if-not-is_tagged.false))
-
-pub returns-then-ram-size : goal.returns-then-ram-size
-returns-then-ram-size c = view_no _ _ _ 0 (view_1 _ _ _ c.is_tagged.ensures (ap not c.if-not-is_tagged.false) c.size-size.ensures c.if-ram-size.true)
-
-pub check-requires : goal.check-requires
-check-requires c = tagged_is _ c.is_tagged.ensures (ap not c.if-not-is_tagged.false)
-
-pub returns-then-not-check : goal.returns-then-not-check
-returns-then-not-check c =
-    view_no _ _ _ 1 (view_2 _ _ _ c.is_tagged.ensures (ap not c.if-not-is_tagged.false) c.size-size.ensures c.if-ram-size.false c.check.ensures (ap not c.if-not-check.true))
-
-pub overflow_sub-size : goal.overflow_sub-size
-overflow_sub-size c = view_sized _ c.size-size.ensures c.check.ensures (ap not c.if-not-check.false)
-
-pub returns-then-address-size : goal.returns-then-address-size
-returns-then-address-size c =
-    view_no _ _ _ 7 (view_8 _ _ _ c.is_tagged.ensures (ap not c.if-not-is_tagged.false) c.size-size.ensures c.if-ram-size.false c.check.ensures (ap not c.if-not-check.false) c.if-address-size.true)
-
-pub returns : goal.returns
-returns c =
-    view_yes _ _ _ (view_0 _ _ _ c.is_tagged.ensures (ap not c.if-not-is_tagged.false) c.size-size.ensures c.if-ram-size.false c.check.ensures (ap not c.if-not-check.false) c.if-address-size.false) (record { each = λ i. (c.shared_slice_known-1.given i).fits })
+pub returns-in-Err : goal.returns-in-Err
+returns-in-Err c = view_no _ _ _ (c.number.ensures ∙ c.in-Err.ensures) (numbered _ c.number.ensures)

@@ -1,7 +1,7 @@
 use mathlib.Core.Path.{ap}
 use mathlib.Core.Bool.{not}
 use Rattle.calls.proofs.Kept.{tagged_not, tagged_is, state_is_2, state_is_0}
-use Rattle.calls.proofs.state_number.Goals as goal
+use Rattle.calls.proofs.check_state.Goals as goal
 
 pub returns-then-not-is_tagged : goal.returns-then-not-is_tagged
 returns-then-not-is_tagged c = tagged_not _ _ c.is_tagged.ensures (ap not c.if-not-is_tagged.true)

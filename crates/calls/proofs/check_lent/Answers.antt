@@ -2,7 +2,7 @@ use mathlib.Core.Path.{ap}
 use mathlib.Core.Bool.{not}
 use Rattle.layout.proofs.Laws.{tagged_length}
 use Rattle.calls.proofs.Kept.{tagged_not, tagged_is, lent_is_1, lent_is_2, lent_is_0}
-use Rattle.calls.proofs.lent_number.Goals as goal
+use Rattle.calls.proofs.check_lent.Goals as goal
 
 pub returns-then-not-is_tagged : goal.returns-then-not-is_tagged
 returns-then-not-is_tagged c = tagged_not _ _ c.is_tagged.ensures (ap not c.if-not-is_tagged.true)
