@@ -2,13 +2,13 @@
 use mathlib.Core.Path.{◌≡◌, refl, sym, ap, ◌∙◌}
 use mathlib.Core.Bool.{Bool, true, false, cond}
 use mathlib.Core.List.{List, [], ◌∷◌, ◌++◌, map}
-use Prim.Native.Nat.{ℕ, ◌+◌, ◌/◌, ◌≤◌, ◌<◌}
+use Prim.Native.Nat.{ℕ, ◌+◌, ◌/◌, ◌<◌}
 use native.Mathlib.Omega.{arith}
 use native.Mathlib.Numerals.{add-one}
 use borrow.Author.Tests.{eq-eqb, ne_eqb}
 use lib.Dec.{eqb}
 use lib.ListN.{length, get_or, set, take, length-map, get_or-map}
-use lib.Seq.{take-suc, take-suc-set, take_all}
+use lib.Seq.{take-suc, take-suc-set}
 use lib.IntN.{ℤ, pos}
 use lib.Ieee.{Float}
 use Rattle.stereo.specs.declared.Stereo.{Stereo}
@@ -34,11 +34,6 @@ pub floats_more : (out : List ℤ) (n : ℕ) (fs : List Float) {x : Float} → n
 floats_more out n fs {x} h l e f =
     let k = length-map out float_of in
     rw (add-one, take-suc-set fs n x (omega arith), take-suc (map float_of out) n (float_of (pos 0)) (omega arith), get_or-map float_of out n (pos 0), e, f)
-
-pub floats_all : (out : List ℤ) (n : ℕ) {fs : List Float} → length fs ≡ length out → take n fs ≡ take n (map float_of out) → length out ≤ n → fs ≡ map float_of out
-floats_all out n {fs} l e h =
-    let k = length-map out float_of in
-    sym (take_all n fs (omega arith)) ∙ e ∙ take_all n (map float_of out) (omega arith)
 
 -- of tests after those that gave n
 first_stays : (ts us : List Test) → (first_of ts ≡ 0 → ⊥) → first_of (ts ++ us) ≡ first_of ts

@@ -6,6 +6,9 @@ ghost use Rattle.stereo.specs.Float.{float_of};
 ghost use Rattle.layout.specs.Layout.{state_of, is_state};
 ghost use Rattle.spu.specs.Step.{pair, floats as floated, ran, ran_floats, tick as ticking, tick_floats, run as running, run_floats, lent_tests, run_tests};
 ghost use Rattle.calls.specs.Kept.{tested_of, Keeps, reports};
+ghost use Rattle.calls.specs.Refusals.{number_of, answered};
+
+use calls::Refusal;
 
 #[repr(C)]
 #[derive(Clone, Copy)]
@@ -48,10 +51,9 @@ pub extern "C" fn tenonwhisk_tick(
 ) -> Ticked
     ensures { Keeps (ticking left right) state.old ram.old marks.old (pair result.number (record { left = result.left; right = result.right })) result.irq result.doubt state.new ram.new marks.new }
 {
-    let number = calls::lent_number(state, ram.len(), marks.len());
-    if number != 0 {
+    if let Err(refusal) = calls::check_lent(state, ram.len(), marks.len()) {
         return Ticked {
-            number,
+            number: refusal.number(),
             irq: false,
             doubt: false,
             left: 0,
@@ -62,7 +64,7 @@ pub extern "C" fn tenonwhisk_tick(
     let mut out = [0i16; 2];
     let r = tick_runs::run(state, ram, marks, &cd, &mut out);
     Ticked {
-        number,
+        number: 0,
         irq: r.irq == 0,
         doubt: r.doubt == 0,
         left: out[0],
@@ -92,25 +94,22 @@ pub extern "C" fn tenonwhisk_tick_floats(
     }
 }
 
-// 1, 2 or 25, or 0 if none applies. The last four are the lengths of what is lent.
-fn run_number(state: &[u16], ram: usize, marks: usize, cd: usize, out: usize) -> u8
-    ensures { result ≡ tested_of state.now (lent_tests (is_state state.now) (state_of state.now) ram marks (run_tests cd out)) }
+// Whether a run may be made; the last four are the lengths of what is lent.
+fn check_run(state: &[u16], ram: usize, marks: usize, cd: usize, out: usize) -> Result<(), Refusal>
+    ensures { answered result ≡ tested_of state.now (lent_tests (is_state state.now) (state_of state.now) ram marks (run_tests cd out)) }
 {
-    let number = calls::lent_number(state, ram, marks);
-    if number != 0 {
-        return number;
-    }
+    calls::check_lent(state, ram, marks)?;
     if ((cd != 0) & (cd != out)) | (out % 2 != 0) {
-        return 25;
+        return Err(Refusal::BadBuffers);
     }
-    0
+    Ok(())
 }
 
-fn refused(number: u8) -> Ran
-    ensures { result ≡ record { number = number; count = 0; irq = 0; doubt = 0 } }
+fn refused(refusal: Refusal) -> Ran
+    ensures { result ≡ record { number = number_of refusal; count = 0; irq = 0; doubt = 0 } }
 {
     Ran {
-        number,
+        number: refusal.number(),
         count: 0,
         irq: 0,
         doubt: 0,
@@ -128,14 +127,13 @@ pub extern "C" fn tenonwhisk_run(
 ) -> Ran
     ensures { Keeps (running cd.now out.old) state.old ram.old marks.old (ran result.number result.count result.irq result.doubt out.new) (reports result.irq result.count) (reports result.doubt result.count) state.new ram.new marks.new }
 {
-    let number = run_number(state, ram.len(), marks.len(), cd.len(), out.len());
-    if number != 0 {
-        return refused(number);
+    if let Err(refusal) = check_run(state, ram.len(), marks.len(), cd.len(), out.len()) {
+        return refused(refusal);
     }
     let count = out.len() / 2;
     let r = tick_runs::run(state, ram, marks, cd, out);
     Ran {
-        number,
+        number: 0,
         count,
         irq: r.irq,
         doubt: r.doubt,
@@ -147,10 +145,8 @@ fn to_floats(out: &[i16], floats: &mut [f32])
     requires { length floats.old ≡ length out.now }
     ensures { floats.new ≡ map float_of out.now }
 {
-    let mut i = 0;
-    while i < out.len() {
-        floats[i] = stereo::to_float(out[i]);
-        i += 1;
+    for (i, x) in out.iter().enumerate() {
+        floats[i] = stereo::to_float(*x);
     }
 }
 
@@ -166,18 +162,17 @@ pub extern "C" fn tenonwhisk_run_floats(
 ) -> Ran
     ensures { Keeps (run_floats cd.now out.old floats.old) state.old ram.old marks.old (ran_floats result.number result.count result.irq result.doubt out.new floats.new) (reports result.irq result.count) (reports result.doubt result.count) state.new ram.new marks.new }
 {
-    let number = run_number(state, ram.len(), marks.len(), cd.len(), out.len());
-    if number != 0 {
-        return refused(number);
+    if let Err(refusal) = check_run(state, ram.len(), marks.len(), cd.len(), out.len()) {
+        return refused(refusal);
     }
     if floats.len() != out.len() {
-        return refused(25);
+        return refused(Refusal::BadBuffers);
     }
     let count = out.len() / 2;
     let r = tick_runs::run(state, ram, marks, cd, out);
     to_floats(out, floats);
     Ran {
-        number,
+        number: 0,
         count,
         irq: r.irq,
         doubt: r.doubt,

@@ -1,21 +1,23 @@
+use mathlib.Core.Path.{refl}
 use Rattle.layout.proofs.Ranges.{state_formed, state_in_range}
 use Rattle.spu.specs.Step.{run_tests}
 use Rattle.calls.proofs.Kept.{lent_state, lent_lent}
+use Rattle.calls.proofs.Refused.{numbered}
 use lib.ListN.{length}
 use Rattle.calls_ticks.proofs.Runs.{run_no, run_yes}
 use Rattle.calls_ticks.proofs.tenonwhisk_run.Goals as goal
 
-pub returns-then-number-ne0 : goal.returns-then-number-ne0
-returns-then-number-ne0 c = rw c.refused.ensures (run_no _ c.args.ram.now c.args.marks.now c.args.cd.now c.args.out.now c.run_number-number.ensures c.if-number-ne0.true)
+pub returns-in-Err : goal.returns-in-Err
+returns-in-Err c = rw c.refused.ensures (run_no _ c.args.ram.now c.args.marks.now c.args.cd.now c.args.out.now c.in-Err.ensures (numbered _ refl))
 
 pub run-r-requires : goal.run-r-requires
 run-r-requires c =
-    let e = c.run_number-number.ensures in
-    let z = c.if-number-ne0.false in
+    let e = c.in_default.ensures in
+    let z = refl in
     let t = run_tests (length c.args.cd.now) (length c.args.out.now) in
     let s = lent_state c.args.state.now c.args.ram.now c.args.marks.now t e z in
     (state_formed _ s, state_in_range _ s, lent_lent c.args.state.now c.args.ram.now c.args.marks.now t e z)
 
 pub returns : goal.returns
 returns c =
-    run_yes _ c.args.ram.now c.args.marks.now c.args.cd.now c.args.out.now c.run_number-number.ensures c.if-number-ne0.false c.run-r.ensures (record { each = λ i. (c.slice_known-4-1.given i).fits })
+    run_yes _ c.args.ram.now c.args.marks.now c.args.cd.now c.args.out.now c.in_default.ensures refl c.run-r.ensures (record { each = λ i. (c.slice_known-4-1.given i).fits })

@@ -1,4 +1,3 @@
-use Prim.Native.Nat.{◌≤◌, ◌-◌}
 use mathlib.Core.Path.{◌≡◌}
 use mathlib.Core.List.{map}
 use lib.ListN.{length, take}
@@ -6,7 +5,4 @@ use Rattle.stereo.specs.Float.{float_of}
 use Rattle.calls_ticks.proofs.to_floats.Given as goal
 
 abbrev pub invariant-loop-i : goal.invariant-loop-i
-invariant-loop-i l = (l.i ≤ length l.out) × (length l.floats ≡ length l.out) × (take l.i l.floats ≡ take l.i (map float_of l.out))
-
-abbrev pub decreases-loop-i : goal.decreases-loop-i
-decreases-loop-i l = length l.out - l.i
+invariant-loop-i l = (length l.floats ≡ length l.out) × (take l.i l.floats ≡ take l.i (map float_of l.out))
