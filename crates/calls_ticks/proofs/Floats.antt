@@ -18,7 +18,6 @@ use Rattle.soundram.specs.Calls.{Reply, still, Outcome, worked_of, outcome}
 use Rattle.soundram.proofs.Programs.{run_bind}
 use Rattle.chip.specs.State.{State, state_ok, watch_of}
 use Rattle.layout.specs.Layout.{state_of, buffer_of, is_state, Halfwords}
-use Rattle.tick.specs.declared.Pair.{Pair}
 use Rattle.tick.specs.Tick.{tick_of}
 use Rattle.tick_runs.specs.Run.{Runs}
 use Rattle.spu.specs.Step.{tick, tick_floats, run_floats, Answer, written, value, moved, moved_out, pair, floats, ran, ran_floats, made, viewed, looked, Test, test, first_of, lent_tests, run_tests, floats_tests, number_of, refused_of, accepted_of, step_of, chip, outcome_of}
@@ -88,8 +87,8 @@ floated s left right r m = by (eqb (first_of (lent_tests (state_ok s) s (length 
     by false = record { answer = refl; irq = refl; doubt = refl; state = refl; ram = refl; marks = refl }
     by true =
         rw (
-          run_bind {B = Reply Answer State} (tick_of s left right) (λ (x : Reply Pair State). done (record { answer = floats 0 (stereo_of x.answer.left x.answer.right); state = x.state })) (mem_of r m (watch_of s)),
-          run_bind {B = Reply Answer State} (tick_of s left right) (λ (x : Reply Pair State). done (record { answer = pair 0 x.answer; state = x.state })) (mem_of r m (watch_of s)),
+          run_bind {B = Reply Answer State} (tick_of s left right) (λ (x : Reply (Stereo ℤ) State). done (record { answer = floats 0 (stereo_of x.answer.left x.answer.right); state = x.state })) (mem_of r m (watch_of s)),
+          run_bind {B = Reply Answer State} (tick_of s left right) (λ (x : Reply (Stereo ℤ) State). done (record { answer = pair 0 x.answer; state = x.state })) (mem_of r m (watch_of s)),
         ) (record { answer = refl; irq = refl; doubt = refl; state = refl; ram = refl; marks = refl })
 
 -- the same of the calls on a buffer
@@ -117,7 +116,7 @@ kept_floated xs left right r m = by (eqb (tested_of xs (lent_tests (is_state xs)
         let g = floated (state_of xs) left right r m in
         record { answer = g.answer; irq = g.irq; doubt = g.doubt; state = ap buffer_of g.state; ram = g.ram; marks = g.marks }
 
-pub floats_as : (xs : List ℕ) (left right : ℤ) (r m : List ℕ) {n : ℕ} {l k a b a' b' : ℤ} {f : Stereo} {i d : Bool} {ys r' m' : List ℕ} → l ≡ left → k ≡ right
+pub floats_as : (xs : List ℕ) (left right : ℤ) (r m : List ℕ) {n : ℕ} {l k a b a' b' : ℤ} {f : Stereo Float} {i d : Bool} {ys r' m' : List ℕ} → l ≡ left → k ≡ right
     → Keeps (tick l k) xs r m (pair n (record { left = a; right = b })) i d ys r' m' → f ≡ stereo_of a' b' → a' ≡ a → b' ≡ b → Keeps (tick_floats left right) xs r m (floats n f) i d ys r' m'
 unfolding as_floats
 floats_as xs left right r m el ek q ef ea eb =

@@ -14,7 +14,7 @@ use Rattle.soundram.proofs.Programs.{does_done, does_bind}
 use Rattle.soundram.proofs.Times.{times_none, times_more, time_does}
 use Rattle.chip.specs.State.{State, watch_of, watched_of}
 use Rattle.layout.specs.Layout.{state_of, is_state, Halfwords}
-use Rattle.tick.specs.declared.Pair.{Pair}
+use Rattle.stereo.specs.declared.Stereo.{Stereo}
 use Rattle.tick.specs.Tick.{tick_of}
 use Rattle.tick_runs.specs.Run.{ticks_of, Runs}
 use Rattle.spu.specs.Step as spu
@@ -51,7 +51,7 @@ at_1 : (o : List ℤ) (x y : ℤ) → length o ≡ 2 → get_or (set (set o 0 x)
 at_1 o x y l = let h = length-set o 0 x in get_or-set_same (set o 0 x) 1 y (pos 0) (omega arith)
 
 module _ (s : State) (left right : ℤ) (r m : List ℕ) (cd o : List ℤ) (el : get_or cd 0 (pos 0) ≡ left) (er : get_or cd 1 (pos 0) ≡ right) (len : length o ≡ 2) where
-  abbrev x : Result (Reply Pair State)
+  abbrev x : Result (Reply (Stereo ℤ) State)
   x = run (tick_of s left right) (mem_of r m (watch_of s))
 
   once : ticks_of s r m cd o ≡ record {

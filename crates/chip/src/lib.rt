@@ -2,6 +2,7 @@
 #![tactic(auto)]
 
 use soundram::ByteAddress;
+use stereo::Stereo;
 
 // SPUCNT's bits 5-0 as the last tick took them, the interrupt latch, and the doubt.
 #[derive(Clone, Copy)]
@@ -11,16 +12,10 @@ pub struct Control {
     pub doubt: bool,
 }
 
-// A side's output, already multiplied, till its next turn.
-#[derive(Clone, Copy)]
-pub struct Held {
-    pub left: i16,
-    pub right: i16,
-}
-
 #[derive(Clone, Copy)]
 pub struct Reverb {
     pub place: ByteAddress,
     pub right: bool,
-    pub held: Held,
+    // Each side's output, already multiplied, till its next turn.
+    pub held: Stereo<i16>,
 }

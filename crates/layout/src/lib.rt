@@ -10,10 +10,11 @@ ghost use Rattle.envelope.specs.Adsr.{active};
 ghost use Rattle.voice.specs.Voice.{is_idle, with_envelope, with_position, fresh as fresh_voice};
 ghost use Rattle.layout.specs.Stores.{put_words, sample_word, Samples, put_tail, with_voice, with_wait, with_repeat, with_noise, with_place, with_rest, zeros_of, blank_of};
 
-use chip::{Control, Held, Reverb};
+use chip::{Control, Reverb};
 use envelope::{Envelope, Phase};
 use noise::Noise;
 use soundram::{ByteAddress, UnitAddress, Watch};
+use stereo::Stereo;
 use voice::{Playing, Position, Source, Voice};
 
 pub const LENGTH: usize = 1284;
@@ -322,7 +323,7 @@ pub fn reverb(state: &[u16]) -> Reverb
     ensures { result ≡ (state_of state.now).reverb }
 {
     let place = address_of(state[PLACE], state[PLACE + 1]);
-    let held = Held {
+    let held = Stereo {
         left: fixed::to_signed(state[HELD]),
         right: fixed::to_signed(state[HELD + 1]),
     };

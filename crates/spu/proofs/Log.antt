@@ -16,7 +16,7 @@ use Rattle.soundram.proofs.Times.{times_ram, times_marks, times_keep}
 use Rattle.chip.specs.State.{Choices, State, state_ok, watch_of, watched_of}
 use Rattle.chip.specs.Range.{Shaped, InRange}
 use Rattle.chip.proofs.Tests.{in_range, passes}
-use Rattle.tick.specs.declared.Pair.{Pair}
+use Rattle.stereo.specs.declared.Stereo.{Stereo}
 use Rattle.tick.specs.Tick.{tick_of}
 use Rattle.spu.specs.Step.{Call, run as running, ran, first_of, run_tests, tick_into, number_of, accepted_of, step_of, chip, outcome_of}
 use Rattle.spu.specs.Log.{call_at, calls_of, with_tick, gathered}
@@ -72,7 +72,7 @@ tick_same cd k t e =
 -- ---- which is not refused
 
 -- a tick leaves the choices as they are
-same_choices : (s : State) (left right : ℤ) → Always (λ (a : Reply Pair State). a.state.choices ≡ s.choices) (tick_of s left right)
+same_choices : (s : State) (left right : ℤ) → Always (λ (a : Reply (Stereo ℤ) State). a.state.choices ≡ s.choices) (tick_of s left right)
 unfolding tick_of
 same_choices s left right = always_bind (always_any _) (λ b _. always_bind (always_any _) (λ _ _. always_bind (always_any _) (λ v _. ends refl)))
 

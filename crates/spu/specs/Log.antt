@@ -2,7 +2,7 @@
 use Rattle.std.specs.Prelude.{cond, List, [], ◌∷◌, ◌++◌, ℕ, zero, suc, ◌+◌, ◌*◌, get_or, set, ℤ, pos}
 use Rattle.soundram.specs.Calls.{Outcome, Times}
 use Rattle.chip.specs.State.{State}
-use Rattle.tick.specs.declared.Pair.{Pair}
+use Rattle.stereo.specs.declared.Stereo.{Stereo}
 use Rattle.spu.specs.Step.{Call, tick, Answer, written, value, moved, moved_out, pair, floats, ran, ran_floats, made, viewed, looked}
 
 -- the call of tick k; past the end of the CD's buffer there is silence
@@ -14,11 +14,11 @@ unfoldable pub calls_of : List ℤ → ℕ → List Call
 calls_of cd zero = []
 calls_of cd (suc k) = calls_of cd k ++ call_at cd k ∷ []
 
-abbrev silence : Pair
+abbrev silence : Stereo ℤ
 silence = record { left = pos 0; right = pos 0 }
 
 -- the pair of a tick's answer
-abbrev pair_in : Answer → Pair
+abbrev pair_in : Answer → Stereo ℤ
 pair_in (written n) = silence
 pair_in (value n v) = silence
 pair_in (moved n k) = silence

@@ -9,7 +9,6 @@ use Rattle.registers.specs.Offsets.{listed, read_only, undocumented, not_written
 use Rattle.chip.specs.State.{State, with_transfer, fresh_of, state_ok, watch_of, watched_of}
 use Rattle.chip.specs.Registers.{write_of, read_of}
 use Rattle.transfer.specs.Transfer.{inward_of, outward_of}
-use Rattle.tick.specs.declared.Pair.{Pair}
 use Rattle.tick.specs.Tick.{tick_of}
 
 -- a call with its fixed arguments; an outgoing buffer is lent with its contents. `run` is a run of ticks, for hosts that want many at a time: it takes the
@@ -36,8 +35,8 @@ pub data Answer : Type 0 where
   value : ℕ → ℕ → Answer
   moved : ℕ → ℕ → Answer
   moved_out : ℕ → ℕ → List ℕ → Answer
-  pair : ℕ → Pair → Answer
-  floats : ℕ → Stereo → Answer
+  pair : ℕ → Stereo ℤ → Answer
+  floats : ℕ → Stereo Float → Answer
   ran : (number count irq doubt : ℕ) → List ℤ → Answer
   ran_floats : (number count irq doubt : ℕ) → List ℤ → List Float → Answer
   made : ℕ → Answer

@@ -18,5 +18,5 @@ abbrev pub Exactly : ℤ → Float → Type 0
 Exactly z x = HasValue x (negative z) (nat_abs z) 0x8000
 
 -- "Hosts may have the pair as 32-bit floats"
-abbrev pub stereo_of : ℤ → ℤ → Stereo
+abbrev pub stereo_of : ℤ → ℤ → Stereo Float
 stereo_of left right = record { left = float_of left; right = float_of right }

@@ -20,11 +20,10 @@ use Rattle.voices.specs.Voices.{no_sums, mixed_of, voice_at}
 use Rattle.capture.specs.Capture.{capture_of, capture_next}
 use Rattle.reverb.specs.declared.Turning.{Turning}
 use Rattle.reverb.specs.Reverb.{AreaIn, side_of, turn_of}
-use Rattle.chip.specs.declared.Held.{Held}
+use Rattle.stereo.specs.declared.Stereo.{Stereo}
 use Rattle.chip.specs.declared.Reverb.{Reverb}
 use Rattle.chip.specs.State.{State}
 use Rattle.chip.specs.Range.{PlaceIn}
-use Rattle.tick.specs.declared.Pair.{Pair}
 use Rattle.tick.specs.declared.Rest.{Rest}
 use Rattle.tick.specs.declared.Going.{Going}
 use Rattle.tick.specs.Tick.{cd_of, mix_of, pair_of, turning_of, input_of, entering_of, place_after, held_of, reverb_after, reverb_of, Closing, close_of, tick_of}
@@ -56,7 +55,7 @@ pub side_as : (regs : List ℕ) (total held x : ℤ) (main offset : ℕ) {total'
     → r ≡ mix_of regs total held (cd_of regs offset x) main
 side_as regs total held x main offset er et eh ec ex = rw (er, et, eh, ec, ex)
 
-pub pair_as : (regs : List ℕ) (h : Held) (s : Sums) (left right : ℤ) {l r : ℤ} → l ≡ mix_of regs s.dry.left h.left (cd_of regs 0x1B0 left) 0x180
+pub pair_as : (regs : List ℕ) (h : Stereo ℤ) (s : Sums) (left right : ℤ) {l r : ℤ} → l ≡ mix_of regs s.dry.left h.left (cd_of regs 0x1B0 left) 0x180
     → r ≡ mix_of regs s.dry.right h.right (cd_of regs 0x1B2 right) 0x182 → record { left = l; right = r } ≡ pair_of regs h s left right
 unfolding pair_of
 pair_as regs h s left right el er = rw (el, er)
@@ -102,7 +101,7 @@ module _ (size base : ℕ) (right : Bool) (place : ℕ) where
   unfolding place_after
   place_moves t e = rw (not-false right t, ne_eqb (place + 2) size e)
 
-module _ (right : Bool) (h : Held) (out : ℤ) {a b : ℤ} where
+module _ (right : Bool) (h : Stereo ℤ) (out : ℤ) {a b : ℤ} where
   pub hold_right : right ≡ true → a ≡ h.left → b ≡ out → record { left = a; right = b } ≡ held_of right h out
   unfolding held_of
   hold_right t p q = rw (t, p, q)
@@ -111,7 +110,7 @@ module _ (right : Bool) (h : Held) (out : ℤ) {a b : ℤ} where
   unfolding held_of
   hold_left t p q = rw (t, p, q)
 
-pub after_as : (size base : ℕ) (r : Reverb) (out : ℤ) {h : Held} {p : ℕ} {o : ℤ} → o ≡ out → h ≡ held_of r.right r.held o
+pub after_as : (size base : ℕ) (r : Reverb) (out : ℤ) {h : Stereo ℤ} {p : ℕ} {o : ℤ} → o ≡ out → h ≡ held_of r.right r.held o
     → p ≡ place_after size base r.right r.place.0 → record { place = record { 0 = p }; right = not r.right; held = h } ≡ reverb_after size base r out
 unfolding reverb_after
 after_as size base r out eo eh ep = rw (eh, ep, eo)
@@ -130,7 +129,7 @@ turn_does regs size r s left right {n} eu eb et ex el er ex' d eq eo = does_bind
 -- ---- the end of a tick
 
 -- s are the sums, c is SPUCNT, t the tick number as the calls have them
-pub close_does : (regs : List ℕ) (size : ℕ) (r : Rest) (z : Noise) (sums : Sums) (left right : ℤ) {s : Sums} {c q t : ℕ} {v : Reverb} {p : Pair} {l₁ r₁ l₂ r₂ l₃ r₃ : ℤ} {k m n : Mem} → s ≡ sums
+pub close_does : (regs : List ℕ) (size : ℕ) (r : Rest) (z : Noise) (sums : Sums) (left right : ℤ) {s : Sums} {c q t : ℕ} {v : Reverb} {p : Stereo ℤ} {l₁ r₁ l₂ r₂ l₃ r₃ : ℤ} {k m n : Mem} → s ≡ sums
     → l₁ ≡ left → r₁ ≡ right → Does (capture_of r.capture l₁ r₁ s.captured) k tt m
     → l₂ ≡ left → r₂ ≡ right → Does (reverb_of regs size r.reverb s l₂ r₂) m v n
     → l₃ ≡ left → r₃ ≡ right → p ≡ pair_of regs r.reverb.held s l₃ r₃ → c ≡ register_at regs 0x1AA → q ≡ capture_next r.capture → t ≡ (r.tick + 1) % 2 ^ 32
@@ -153,7 +152,7 @@ carried p q f g {m} d =
     }
 
 -- the whole tick: the voices, then its end
-pub tick_does : (s : State) (vs : List Voice) (r : Rest) (w : Watch) (left right : ℤ) {z : Noise} {us : List Voice} {sums : Sums} {p : Pair} {q : Rest} {j k n : Mem}
+pub tick_does : (s : State) (vs : List Voice) (r : Rest) (w : Watch) (left right : ℤ) {z : Noise} {us : List Voice} {sums : Sums} {p : Stereo ℤ} {q : Rest} {j k n : Mem}
     → z ≡ ticked_of r.noise (register_at s.regs 0x1AA)
     → Does (repeat (voice_at s.choices.size s.regs z.level) 24 (record { voices = vs; sums = no_sums })) j (record { voices = us; sums = sums }) k
     → Does (close_of s.regs s.choices.size r z sums left right) k (record { pair = p; rest = q }) n
@@ -167,7 +166,7 @@ pub cd_past : (cd : List ℤ) (i : ℕ) → length cd ≤ i → pos 0 ≡ get_or
 cd_past cd i h = sym (get_or-eq_default cd (pos 0) h)
 
 -- l, r are the CD's pair, c is SPUCNT as the calls have them
-pub finish_does : (regs : List ℕ) (size : ℕ) (g : Going) (hs cd : List ℤ) (k : ℕ) (before : List ℤ) (h : Going) {m m' : Mem} {after : List ℤ} {l r : ℤ} {p : Pair} {c : ℕ} → l ≡ get_or cd (k * 2) (pos 0)
+pub finish_does : (regs : List ℕ) (size : ℕ) (g : Going) (hs cd : List ℤ) (k : ℕ) (before : List ℤ) (h : Going) {m m' : Mem} {after : List ℤ} {l r : ℤ} {p : Stereo ℤ} {c : ℕ} → l ≡ get_or cd (k * 2) (pos 0)
     → r ≡ get_or cd (k * 2 + 1) (pos 0) → Does (close_of regs size g.rest g.noise (mixed_of regs hs 24) l r) m (record { pair = p; rest = h.rest }) m'
     → after ≡ set (set before (k * 2) p.left) (k * 2 + 1) p.right → c ≡ register_at regs 0x1AA → h.noise ≡ ticked_of h.rest.noise c
     → h.irq ≡ cond (h.watch.latch && not g.watch.latch) k g.irq → h.doubt ≡ cond (h.watch.doubt && not g.watch.doubt) k g.doubt

@@ -12,7 +12,7 @@ use Rattle.chip.specs.State.{State, base_of}
 use Rattle.chip.specs.Range.{PlaceIn, InRange}
 use Rattle.chip.proofs.Tests.{sized}
 use Rattle.chip.proofs.Ranges.{placed_even, placed_most}
-use Rattle.tick.specs.declared.Pair.{Pair}
+use Rattle.stereo.specs.declared.Stereo.{Stereo}
 use Rattle.tick.specs.Tick.{place_after, reverb_after, reverb_of, tick_of}
 
 moved_place : {size base place : ℕ} (right : Bool) → Sized size → base % 2 ≡ 0 → base ≤ size - 2 → PlaceIn size base place → PlaceIn size base (place_after size base right place)
@@ -37,7 +37,7 @@ reverb_in {s} sums left right r =
     always_bind (always_any _) (λ out _. ends (moved_place s.reverb.right z (placed_even _ z) (placed_most _ z)
     r.place))
 
-pub tick_in : {s : State} (left right : ℤ) → InRange s → Always (λ (a : Reply Pair State). InRange a.state) (tick_of s left right)
+pub tick_in : {s : State} (left right : ℤ) → InRange s → Always (λ (a : Reply (Stereo ℤ) State). InRange a.state) (tick_of s left right)
 unfolding tick_of
 tick_in {s} left right r =
     let e = r.capture.even in

@@ -7,7 +7,7 @@ use Rattle.registers.specs.Map.{register_at}
 use Rattle.voice.specs.declared.Voice.{Voice}
 use Rattle.voices.specs.Voices.{mixed_of}
 use Rattle.chip.specs.State.{State, watch_of}
-use Rattle.tick.specs.declared.Pair.{Pair}
+use Rattle.stereo.specs.declared.Stereo.{Stereo}
 use Rattle.tick.specs.declared.Rest.{Rest}
 use Rattle.tick.specs.declared.Going.{Going}
 use Rattle.tick.specs.Tick.{close_of}
@@ -36,7 +36,7 @@ begin_of s count = record { rest = rest_of s; noise = ticked_of s.noise (registe
 
 -- tick k ends, of the amplitudes of its voices: h is where the run then is, its pair stands in the buffer, and the next tick's noise is made
 pub record Finishes (regs : List ℕ) (size : ℕ) (g : Going) (amplitudes cd : List ℤ) (k : ℕ) (m : Mem) (before : List ℤ) (h : Going) (m' : Mem) (after : List ℤ) : Type 0 where
-  pub pair : Pair
+  pub pair : Stereo ℤ
   pub closes : Does (close_of regs size g.rest g.noise (mixed_of regs amplitudes 24) (slice_index_or cd (k * 2) (pos 0)) (slice_index_or cd (k * 2 + 1) (pos 0))) m
       (record { pair = pair; rest = h.rest }) m'
   pub out : after ≡ slice_set (slice_set before (k * 2) pair.left) (k * 2 + 1) pair.right

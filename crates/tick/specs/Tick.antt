@@ -14,10 +14,9 @@ use Rattle.capture.specs.Capture.{capture_of, capture_next}
 use Rattle.reverb.specs.declared.Area.{Area}
 use Rattle.reverb.specs.declared.Turning.{Turning}
 use Rattle.reverb.specs.Reverb.{side_of, turn_of}
-use Rattle.chip.specs.declared.Held.{Held}
+use Rattle.stereo.specs.declared.Stereo.{Stereo}
 use Rattle.chip.specs.declared.Reverb.{Reverb}
 use Rattle.chip.specs.State.{State, base_at}
-use Rattle.tick.specs.declared.Pair.{Pair}
 use Rattle.tick.specs.declared.Rest.{Rest}
 
 -- ---- mix
@@ -33,7 +32,7 @@ mix_of regs total held cd main =
     let heard = cond (bit 14 (register_at regs 0x1AA)) (saturated total +ℤ held) (pos 0) in
     saturated (product_of (saturated (heard +ℤ cd)) (volume_of (register_at regs main)))
 
-unfoldable pub pair_of : List ℕ → Held → Sums → ℤ → ℤ → Pair
+unfoldable pub pair_of : List ℕ → Stereo ℤ → Sums → ℤ → ℤ → Stereo ℤ
 pair_of regs held sums left right =
     record {
       left = mix_of regs sums.dry.left held.left (cd_of regs 0x1B0 left) 0x180;
@@ -57,7 +56,7 @@ unfoldable pub place_after : ℕ → ℕ → Bool → ℕ → ℕ
 place_after size base right place = cond right (cond (place + 2 == size) base (place + 2)) place
 
 -- "Each side's output .. is held till its next turn"
-unfoldable pub held_of : Bool → Held → ℤ → Held
+unfoldable pub held_of : Bool → Stereo ℤ → ℤ → Stereo ℤ
 held_of right h out = record { left = cond right h.left out; right = cond right out h.right }
 
 unfoldable pub reverb_after : ℕ → ℕ → Reverb → ℤ → Reverb
@@ -84,7 +83,7 @@ reverb_of regs size r sums left right =
 -- ---- what is left of a tick once its voices have played, of their sums and of this tick's noise
 
 pub record Closing : Type 0 where
-  pub pair : Pair
+  pub pair : Stereo ℤ
   pub rest : Rest
 
 unfoldable pub close_of : List ℕ → ℕ → Rest → Noise → Sums → ℤ → ℤ → Prog Closing
@@ -99,7 +98,7 @@ close_of regs size r noise sums left right =
 
 -- ---- the whole tick, of the raw CD pair
 
-unfoldable pub tick_of : State → ℤ → ℤ → Prog (Reply Pair State)
+unfoldable pub tick_of : State → ℤ → ℤ → Prog (Reply (Stereo ℤ) State)
 tick_of s left right =
     let spucnt = register_at s.regs 0x1AA in
     let noise = ticked_of s.noise spucnt in

@@ -14,18 +14,12 @@ ghost use Rattle.chip.specs.State.{base_at};
 ghost use Rattle.tick.specs.Tick.{cd_of, mix_of, pair_of, turning_of, input_of, entering_of, place_after, held_of, reverb_after, reverb_of, close_of};
 ghost use Rattle.tick.specs.Run.{Finishes};
 
-use chip::{Held, Reverb};
+use chip::Reverb;
 use noise::Noise;
 use reverb::{Area, Turning};
 use soundram::{ByteAddress, UnitAddress, Watch};
+use stereo::Stereo;
 use voices::Sums;
-
-// The pair that a tick gives.
-#[derive(Clone, Copy)]
-pub struct Pair {
-    pub left: i16,
-    pub right: i16,
-}
 
 // What a tick changes beside the voices.
 #[derive(Clone, Copy)]
@@ -51,7 +45,7 @@ pub struct Going {
 #[derive(Clone, Copy)]
 struct Closed {
     rest: Rest,
-    pair: Pair,
+    pair: Stereo<i16>,
     watch: Watch,
 }
 
@@ -104,11 +98,11 @@ fn mix(regs: &[u16; 256], total: i32, held: i16, cd: i32, main: usize) -> i16
 }
 
 // The pair, of the sums, the held outputs and the CD.
-fn mixed(regs: &[u16; 256], held: Held, sums: Sums, left: i16, right: i16) -> Pair
+fn mixed(regs: &[u16; 256], held: Stereo<i16>, sums: Sums, left: i16, right: i16) -> Stereo<i16>
     ensures { result ≡ pair_of regs.now held sums left right }
 {
     let dry = sums.dry;
-    Pair {
+    Stereo {
         left: mix(regs, dry.left, held.left, cd(regs, 0x1B0, left), 0x180),
         right: mix(regs, dry.right, held.right, cd(regs, 0x1B2, right), 0x182),
     }
@@ -164,16 +158,16 @@ fn place_after(size: u32, base: u32, right: bool, place: u32) -> u32
     place + 2
 }
 
-fn hold(right: bool, held: Held, out: i16) -> Held
+fn hold(right: bool, held: Stereo<i16>, out: i16) -> Stereo<i16>
     ensures { result ≡ held_of right held out }
 {
     if right {
-        return Held {
+        return Stereo {
             left: held.left,
             right: out,
         };
     }
-    Held {
+    Stereo {
         left: out,
         right: held.right,
     }
@@ -277,7 +271,7 @@ fn cd_at(cd: &[i16], i: usize) -> i16
     0
 }
 
-fn put_pair(out: &mut [i16], i: usize, pair: Pair)
+fn put_pair(out: &mut [i16], i: usize, pair: Stereo<i16>)
     requires { i + 1 < length out.old }
     ensures { out.new ≡ slice_set (slice_set out.old i pair.left) (i + 1) pair.right }
 {

@@ -11,7 +11,7 @@ use Rattle.voice.specs.declared.Voice.{Voice}
 use Rattle.voice.specs.declared.Settings.{Settings}
 use Rattle.voice.specs.Voice.{tick_of}
 use Rattle.voice.specs.Range.{InRange}
-use Rattle.voices.specs.declared.Sides.{Sides}
+use Rattle.stereo.specs.declared.Stereo.{Stereo}
 use Rattle.voices.specs.declared.Captured.{Captured}
 use Rattle.voices.specs.declared.Sums.{Sums}
 
@@ -42,17 +42,17 @@ pub record Modulated (regs : List ℕ) (flags : ℕ) : Type 0 where
 unfoldable pub side_of : ℤ → ℕ → ℤ
 side_of amplitude volume = product_of amplitude (volume_of volume)
 
-unfoldable pub sides_of : List ℕ → ℕ → ℤ → Sides
+unfoldable pub sides_of : List ℕ → ℕ → ℤ → Stereo ℤ
 sides_of regs n a = record { left = side_of a (of_voice regs n 0); right = side_of a (of_voice regs n 2) }
 
-abbrev pub silent : Sides
+abbrev pub silent : Stereo ℤ
 silent = record { left = pos 0; right = pos 0 }
 
-unfoldable pub joined_of : Sides → Sides → Sides
+unfoldable pub joined_of : Stereo ℤ → Stereo ℤ → Stereo ℤ
 joined_of s t = record { left = s.left +ℤ t.left; right = s.right +ℤ t.right }
 
 -- "EON voices' sides"
-unfoldable pub gated_of : Bool → Sides → Sides
+unfoldable pub gated_of : Bool → Stereo ℤ → Stereo ℤ
 gated_of on s = cond on s silent
 
 -- "amplitudes of voices 1 and 3" are captured
@@ -85,11 +85,11 @@ pub record Volumes (regs : List ℕ) (v : List ℤ) : Type 0 where
   pub wet_right : (n : ℕ) → n < 24 → get_or v (n + 72) (pos 0) ≡ cond (flag_of regs 0x198 n) (volume_of (of_voice regs n 2)) (pos 0)
 
 -- an amplitude's shares of both sides, by the volumes at k and 24 further on
-unfoldable pub shares_of : List ℤ → ℕ → ℤ → Sides
+unfoldable pub shares_of : List ℤ → ℕ → ℤ → Stereo ℤ
 shares_of v k a = record { left = product_of a (get_or v k (pos 0)); right = product_of a (get_or v (k + 24) (pos 0)) }
 
 -- the sums of n voices: each side is at most 8000h
-pub record SidesIn (n : ℕ) (s : Sides) : Type 0 where
+pub record SidesIn (n : ℕ) (s : Stereo ℤ) : Type 0 where
   pub left : In (n * 0x8000) (n * 0x8000) s.left
   pub right : In (n * 0x8000) (n * 0x8000) s.right
 

@@ -5,14 +5,8 @@ ghost use Rattle.std.specs.Prelude.{◌≡◌, ◌<◌};
 ghost use Rattle.registers.specs.Map.{Flags};
 ghost use Rattle.voices.specs.Voices.{flagged_of, settings_of, Modulated};
 
+use stereo::Stereo;
 use voice::Settings;
-
-// A sum, or a share of one, for each side.
-#[derive(Clone, Copy)]
-pub struct Sides {
-    pub left: i32,
-    pub right: i32,
-}
 
 // The amplitudes of voices 1 and 3.
 #[derive(Clone, Copy)]
@@ -25,8 +19,8 @@ pub struct Captured {
 // are captured.
 #[derive(Clone, Copy)]
 pub struct Sums {
-    pub dry: Sides,
-    pub wet: Sides,
+    pub dry: Stereo<i32>,
+    pub wet: Stereo<i32>,
     pub below: i16,
     pub captured: Captured,
 }

@@ -15,7 +15,7 @@ use Rattle.fixed.specs.Range.{In}
 use Rattle.fixed.specs.Arithmetic.{product_of, volume_of}
 use Rattle.fixed.proofs.Number.{add_in}
 use Rattle.registers.specs.Map.{of_voice, flag_of, Flags}
-use Rattle.voices.specs.declared.Sides.{Sides}
+use Rattle.stereo.specs.declared.Stereo.{Stereo}
 use Rattle.voices.specs.Voices.{side_of, sides_of, silent, Volumes, shares_of, joined_of, gated_of, captured_of, added_of, SidesIn, mixed_of}
 
 -- x and y are the amplitude as the calls have it, p and q the volumes, l' and r' the shares as the answer holds them
@@ -134,14 +134,14 @@ gated_by regs n eon f h e p q = rw (p, e, f.each n h, q)
 more : (n : ℕ) {a b : ℤ} → In (n * 0x8000) (n * 0x8000) a → In 0x8000 0x8000 b → In ((n + 1) * 0x8000) ((n + 1) * 0x8000) (a +ℤ b)
 more n i j = let s = add_in i j in record { top = omega arith; low = omega arith }
 
-pub joined_in : (n : ℕ) (s t : Sides) {r : Sides} → r ≡ joined_of s t → SidesIn n s → SidesIn 1 t → SidesIn (n + 1) r
+pub joined_in : (n : ℕ) (s t : Stereo ℤ) {r : Stereo ℤ} → r ≡ joined_of s t → SidesIn n s → SidesIn 1 t → SidesIn (n + 1) r
 unfolding joined_of
 joined_in n s t e i j = rw e (record { left = more n i.left j.left; right = more n i.right j.right })
 
 fewer : (n : ℕ) {z : ℤ} → n < 24 → In (n * 0x8000) (n * 0x8000) z → In (23 * 0x8000) (23 * 0x8000) z
 fewer n h i = record { top = omega arith; low = omega arith }
 
-pub sides_few : (n : ℕ) (s : Sides) → n < 24 → SidesIn n s → SidesIn 23 s
+pub sides_few : (n : ℕ) (s : Stereo ℤ) → n < 24 → SidesIn n s → SidesIn 23 s
 sides_few n s h i = record { left = fewer n h i.left; right = fewer n h i.right }
 
 pub silent_in : SidesIn 0 silent
@@ -150,24 +150,24 @@ silent_in = record { left = zero_in; right = zero_in }
     zero_in : In 0 0 (pos 0)
     zero_in = record { top = omega arith; low = omega arith }
 
-pub sides_end : {n k : ℕ} {s : Sides} → SidesIn n s → n ≤ k → k ≤ n → SidesIn k s
+pub sides_end : {n k : ℕ} {s : Stereo ℤ} → SidesIn n s → n ≤ k → k ≤ n → SidesIn k s
 sides_end {n} {k} {s} i a b = let e : n ≡ k = omega arith in subst (λ (j : ℕ). SidesIn j s) e i
 
 -- ---- the sums of the first n voices: d and w are those so far, h the shares of voice n, a its amplitude as the call has it
 
 module _ (regs : List ℕ) (v hs : List ℤ) (n : ℕ) {a : ℤ} (f : Volumes regs v) (l : n < 24) (p : a ≡ get_or hs n (pos 0)) where
-  pub mixed_dry : {d h r : Sides} → d ≡ (mixed_of regs hs n).dry → h ≡ shares_of v n a → r ≡ joined_of d h → r ≡ (mixed_of regs hs (n + 1)).dry
+  pub mixed_dry : {d h r : Stereo ℤ} → d ≡ (mixed_of regs hs n).dry → h ≡ shares_of v n a → r ≡ joined_of d h → r ≡ (mixed_of regs hs (n + 1)).dry
   unfolding mixed_of added_of shares_of sides_of side_of
   mixed_dry e q j = rw (add-one n, j, e, q, f.left n l, f.right n l, p)
 
-  pub mixed_wet : {w h r : Sides} → w ≡ (mixed_of regs hs n).wet → h ≡ shares_of v (n + 48) a → r ≡ joined_of w h → r ≡ (mixed_of regs hs (n + 1)).wet
+  pub mixed_wet : {w h r : Stereo ℤ} → w ≡ (mixed_of regs hs n).wet → h ≡ shares_of v (n + 48) a → r ≡ joined_of w h → r ≡ (mixed_of regs hs (n + 1)).wet
   unfolding mixed_of added_of shares_of sides_of side_of
   mixed_wet e q j =
       let k : n + 48 + 24 ≡ n + 72 = omega arith in
       rw (add-one n, j, e, q, k, f.wet_left n l, f.wet_right n l, gated_shares (flag_of regs 0x198 n) a (volume_of (of_voice regs n 0)) (volume_of (of_voice regs n 2)), p)
 
 -- x, y and z are the amplitudes as they are kept
-pub mixed_all : (regs : List ℕ) (hs : List ℤ) (n : ℕ) {d w : Sides} {x y z : ℤ} → d ≡ (mixed_of regs hs n).dry → w ≡ (mixed_of regs hs n).wet → n ≤ 24 → 24 ≤ n
+pub mixed_all : (regs : List ℕ) (hs : List ℤ) (n : ℕ) {d w : Stereo ℤ} {x y z : ℤ} → d ≡ (mixed_of regs hs n).dry → w ≡ (mixed_of regs hs n).wet → n ≤ 24 → 24 ≤ n
     → x ≡ get_or hs 23 (pos 0) → y ≡ get_or hs 1 (pos 0) → z ≡ get_or hs 3 (pos 0)
     → record { dry = d; wet = w; below = x; captured = record { first = y; third = z } } ≡ mixed_of regs hs 24
 unfolding mixed_of added_of captured_of

@@ -6,7 +6,8 @@ ghost use Rattle.fixed.specs.Range.{In};
 ghost use Rattle.fixed.specs.Arithmetic.{product_of};
 ghost use Rattle.voices.specs.Voices.{Volumes, shares_of, joined_of, SidesIn, SumsIn, mixed_of};
 
-use voices::{Captured, Sides, Sums};
+use stereo::Stereo;
+use voices::{Captured, Sums};
 
 // A voice's volume, or none.
 fn gate(on: bool, volume: i16) -> i16
@@ -46,21 +47,21 @@ fn side(amplitude: i16, volume: i16) -> i32
 }
 
 // Its shares of both sides, by the volumes at k and 24 further on.
-fn both_sides(v: &[i16; 96], k: usize, a: i16) -> Sides
+fn both_sides(v: &[i16; 96], k: usize, a: i16) -> Stereo<i32>
     requires { k < 72 }
     ensures { (result ≡ shares_of v.now k a) × SidesIn 1 result }
 {
-    Sides {
+    Stereo {
         left: side(a, v[k]),
         right: side(a, v[k + 24]),
     }
 }
 
-fn join(s: Sides, t: Sides) -> Sides
+fn join(s: Stereo<i32>, t: Stereo<i32>) -> Stereo<i32>
     requires { SidesIn 23 s × SidesIn 1 t }
     ensures { result ≡ joined_of s t }
 {
-    Sides {
+    Stereo {
         left: s.left + t.left,
         right: s.right + t.right,
     }
@@ -71,8 +72,8 @@ pub fn mix(regs: &[u16; 256], v: &[i16; 96], amplitudes: [i16; 24]) -> Sums
     requires { Volumes regs.now v.now }
     ensures { (result ≡ mixed_of regs.now amplitudes 24) × SumsIn 24 result }
 {
-    let mut dry = Sides { left: 0, right: 0 };
-    let mut wet = Sides { left: 0, right: 0 };
+    let mut dry = Stereo { left: 0, right: 0 };
+    let mut wet = Stereo { left: 0, right: 0 };
     for n in 0..24usize {
         let a = amplitudes[n];
         dry = join(dry, both_sides(v, n, a));
