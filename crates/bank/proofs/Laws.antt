@@ -1,21 +1,22 @@
 -- What the code reads and tests of a bank, as the definitions have it; and what is known of a good bank. Assumes nothing.
 use mathlib.Core.Path.{◌≡◌, refl, sym, ap, ◌∙◌}
-use mathlib.Core.Bool.{Bool, true, false, cond, ◌&&◌, ◌||◌, not, false≢true}
+use mathlib.Core.Bool.{Bool, true, false, cond, ◌&&◌, ◌||◌, false≢true}
 use mathlib.Core.List.{List}
 use Prim.Native.Nat.{ℕ, zero, suc, ◌+◌, ◌*◌, ◌≤◌, ◌<◌}
 use native.Mathlib.Nat.{le_trans}
 use native.Mathlib.Numerals.{add-one}
 use native.Mathlib.Decide.{dec_lt}
 use native.Mathlib.Omega.{arith}
-use borrow.Author.Tests.{leb-true, not-true, not-false, le-leb, lt-leb, lt-ltb, le-ltb}
+use borrow.Author.Tests.{leb-true, le-leb, lt-leb, lt-ltb, le-ltb}
 use lib.Dec.{eqb, leb}
 use lib.ListN.{length}
 use Rattle.fixed.proofs.Bools.{and_first, and_rest}
 use Rattle.little_endian.specs.Bytes.{half_at, word_at}
 use Rattle.bank.specs.declared.Entry.{Entry}
-use Rattle.bank.specs.declared.Damage.{Damage}
-use Rattle.bank.specs.declared.Damage.TheVariants.{Nowhere, InHeader, AtEntry}
-use Rattle.bank.specs.Bank.{count_of, place_of, entry_at, is_header, is_sound, is_alias, is_entry, is_entry_at, earlier, damage_below, damage_of, is_nowhere, is_good, fields_of, no_fields}
+use Rattle.std.specs.Prelude.{Ok, Err}
+use Rattle.bank.specs.declared.Damage.TheVariants.{InHeader, AtEntry}
+use Rattle.bank.specs.declared.Refusal.TheVariants.{Damaged, NoEntry}
+use Rattle.bank.specs.Bank.{count_of, place_of, entry_at, is_header, is_sound, is_alias, is_entry, Checked, is_entry_at, earlier, damage_below, damage_of, is_nowhere, is_good, fields_of}
 
 -- ---- the header
 
@@ -97,22 +98,21 @@ entry_longer end size more n e l t = keep (is_sound end size e) (is_sound end mo
 
 -- ---- damage
 
-pub nowhere : (d : Damage) → is_nowhere d ≡ true → d ≡ Nowhere
-nowhere Nowhere t = refl
-nowhere InHeader t = absurd (false≢true t)
-nowhere (AtEntry n) t = absurd (false≢true t)
+pub nowhere : (d : Checked) → is_nowhere d ≡ true → d ≡ Ok tt
+nowhere (Ok u) t = refl
+nowhere (Err e) t = absurd (false≢true t)
 
 module _ (good : ℕ → Bool) where
-  pub below_none : damage_below good 0 ≡ Nowhere
+  pub below_none : damage_below good 0 ≡ Ok tt
   unfolding damage_below
   below_none = refl
 
-  pub below_more : (n : ℕ) → damage_below good n ≡ Nowhere → good n ≡ true → damage_below good (n + 1) ≡ Nowhere
+  pub below_more : (n : ℕ) → damage_below good n ≡ Ok tt → good n ≡ true → damage_below good (n + 1) ≡ Ok tt
   unfolding damage_below
   below_more n e g = rw (add-one, e, g)
 
   -- the first stays the first
-  pub below_found : (n k : ℕ) → damage_below good n ≡ Nowhere → good n ≡ false → n < k → damage_below good k ≡ AtEntry n
+  pub below_found : (n k : ℕ) → damage_below good n ≡ Ok tt → good n ≡ false → n < k → damage_below good k ≡ Err (AtEntry n)
   unfolding damage_below
   below_found n zero e g h = absurd (omega arith)
   below_found n (suc k) e g h =
@@ -122,11 +122,10 @@ module _ (good : ℕ → Bool) where
       ]
 
   -- nowhere below k + 1: nowhere below k, and not at k
-  one_more : (k : ℕ) (d : Damage) (b : Bool) → is_nowhere (earlier d (cond b Nowhere (AtEntry k))) ≡ (is_nowhere d && b)
-  one_more k Nowhere true = refl
-  one_more k Nowhere false = refl
-  one_more k InHeader b = refl
-  one_more k (AtEntry n) b = refl
+  one_more : (k : ℕ) (d : Checked) (b : Bool) → is_nowhere (earlier d (cond b (Ok tt) (Err (AtEntry k)))) ≡ (is_nowhere d && b)
+  one_more k (Ok u) true = refl
+  one_more k (Ok u) false = refl
+  one_more k (Err e) b = refl
 
   pub below_all : (k : ℕ) → is_nowhere (damage_below good k) ≡ true → (n : ℕ) → n < k → good n ≡ true
   unfolding damage_below
@@ -143,7 +142,7 @@ module _ (good : ℕ → Bool) where
   below_same other zero g = refl
   below_same other (suc k) g = rw (below_same other k (λ n h. g n (omega arith)), g k (omega arith))
 
-  pub all_below_lem : (k : ℕ) → ((n : ℕ) → n < k → good n ≡ true) → damage_below good k ≡ Nowhere
+  pub all_below_lem : (k : ℕ) → ((n : ℕ) → n < k → good n ≡ true) → damage_below good k ≡ Ok tt
   unfolding damage_below
   all_below_lem zero g = refl
   all_below_lem (suc k) g = rw (all_below_lem k (λ n h. g n (omega arith)), g k (omega arith))
@@ -158,7 +157,7 @@ pub good_is : (bank : List ℕ) → is_good bank ≡ true → Good bank
 unfolding is_good damage_of
 good_is bank t = by (is_header bank) refl t
   where
-    by : (b : Bool) → is_header bank ≡ b → is_nowhere (cond b (damage_below (is_entry_at bank) (count_of bank)) InHeader) ≡ true → Good bank
+    by : (b : Bool) → is_header bank ≡ b → is_nowhere (cond b (damage_below (is_entry_at bank) (count_of bank)) (Err InHeader)) ≡ true → Good bank
     by true h u = record { header = h; entries = below_all (is_entry_at bank) (count_of bank) u }
     by false h u = absurd (false≢true u)
 
@@ -166,9 +165,10 @@ pub is_good_lem : (bank : List ℕ) → Good bank → is_good bank ≡ true
 unfolding is_good damage_of
 is_good_lem bank g = rw (g.header, all_below_lem (is_entry_at bank) (count_of bank) g.entries)
 
-pub good_told : (bank : List ℕ) {d x : Damage} → d ≡ damage_of bank → d ≡ x → is_nowhere x ≡ is_good bank
+-- d is what `check` answered
+pub good_told : (bank : List ℕ) {d : Checked} → d ≡ damage_of bank → is_good bank ≡ is_nowhere d
 unfolding is_good
-good_told bank e t = ap is_nowhere (sym t ∙ e)
+good_told bank e = ap is_nowhere (sym e)
 
 pub good_header : (bank : List ℕ) → is_good bank ≡ true → Header bank
 good_header bank t = header_is bank (good_is bank t).header
@@ -176,36 +176,36 @@ good_header bank t = header_is bank (good_is bank t).header
 -- ---- what `check` answers
 
 module _ (bank : List ℕ) where
-  pub check_header : {b : Bool} → b ≡ is_header bank → not b ≡ true → InHeader ≡ damage_of bank
+  pub check_header : {b : Bool} → b ≡ is_header bank → b ≡ false → Err InHeader ≡ damage_of bank
   unfolding damage_of
-  check_header {b} e t = rw (← e, not-true b t)
+  check_header {b} e t = rw (← e, t)
 
-  module _ {b : Bool} (e : b ≡ is_header bank) (t : not b ≡ false) where
+  module _ {b : Bool} (e : b ≡ is_header bank) (t : b ≡ true) where
     pub tested_header : is_header bank ≡ true
-    tested_header = sym e ∙ not-false _ t
+    tested_header = sym e ∙ t
 
     pub checked : Header bank
     checked = header_is bank tested_header
 
-    pub check_entry : (n : ℕ) → damage_below (is_entry_at bank) n ≡ Nowhere → is_entry_at bank n ≡ false → n < count_of bank → AtEntry n ≡ damage_of bank
+    pub check_entry : (n : ℕ) → damage_below (is_entry_at bank) n ≡ Ok tt → is_entry_at bank n ≡ false → n < count_of bank → Err (AtEntry n) ≡ damage_of bank
     unfolding damage_of
-    check_entry n d g h = rw (← e, not-false b t, below_found (is_entry_at bank) n (count_of bank) d g h)
+    check_entry n d g h = rw (← e, t, below_found (is_entry_at bank) n (count_of bank) d g h)
 
-    pub check_all : (n : ℕ) → damage_below (is_entry_at bank) n ≡ Nowhere → n ≤ count_of bank → count_of bank ≤ n → Nowhere ≡ damage_of bank
+    pub check_all : (n : ℕ) → damage_below (is_entry_at bank) n ≡ Ok tt → n ≤ count_of bank → count_of bank ≤ n → Ok tt ≡ damage_of bank
     unfolding damage_of
-    check_all n d l h = let q : count_of bank ≡ n = omega arith in rw (← e, not-false b t, q, d)
+    check_all n d l h = let q : count_of bank ≡ n = omega arith in rw (← e, t, q, d)
 
   -- ---- what `read_entry` answers
 
-  pub fields_9 : {b : Bool} → b ≡ is_header bank → not b ≡ true → (n : ℕ) → no_fields 9 ≡ fields_of bank n
+  pub fields_damaged : {b : Bool} → b ≡ is_header bank → b ≡ false → (n : ℕ) → Err Damaged ≡ fields_of bank n
   unfolding fields_of
-  fields_9 {b} e t n = rw (← e, not-true b t)
+  fields_damaged {b} e t n = rw (← e, t)
 
-  module _ {b : Bool} (e : b ≡ is_header bank) (t : not b ≡ false) (n : ℕ) {k : ℕ} (f : k ≡ count_of bank) where
-    pub fields_10 : k ≤ n → no_fields 10 ≡ fields_of bank n
+  module _ {b : Bool} (e : b ≡ is_header bank) (t : b ≡ true) (n : ℕ) {k : ℕ} (f : k ≡ count_of bank) where
+    pub fields_none : k ≤ n → Err NoEntry ≡ fields_of bank n
     unfolding fields_of
-    fields_10 h = rw (← e, not-false b t, ← f, le-ltb n k h)
+    fields_none h = rw (← e, t, ← f, le-ltb n k h)
 
-    pub fields_0 : n < k → {y : Entry} → y ≡ entry_at bank n → record { number = 0; entry = y } ≡ fields_of bank n
+    pub fields_read : n < k → {y : Entry} → y ≡ entry_at bank n → Ok y ≡ fields_of bank n
     unfolding fields_of
-    fields_0 h g = rw (← e, not-false b t, ← f, lt-ltb n k h, g)
+    fields_read h g = rw (← e, t, ← f, lt-ltb n k h, g)

@@ -1,10 +1,11 @@
 -- Sound banks: the house layout, and what a lookup finds (document 02, M-100). Every number here is unbounded. Assumes nothing.
-use Rattle.std.specs.Prelude.{Bool, true, false, cond, ◌&&◌, ◌||◌, List, ℕ, zero, suc, ◌+◌, ◌*◌, ◌%◌, eqb, leb, ltb, length, take, drop}
+use Rattle.std.specs.Prelude.{Bool, true, false, cond, ◌&&◌, ◌||◌, List, [], ℕ, zero, suc, ◌+◌, ◌*◌, ◌%◌, eqb, leb, ltb, length, take, drop, Result, Ok, Err}
 use Rattle.little_endian.specs.Bytes.{half_at, word_at}
 use Rattle.bank.specs.declared.Entry.{Entry}
 use Rattle.bank.specs.declared.Damage.{Damage}
-use Rattle.bank.specs.declared.Damage.TheVariants.{Nowhere, InHeader, AtEntry}
-use Rattle.bank.specs.declared.Fields.{Fields}
+use Rattle.bank.specs.declared.Damage.TheVariants.{InHeader, AtEntry}
+use Rattle.bank.specs.declared.Refusal.{Refusal}
+use Rattle.bank.specs.declared.Refusal.TheVariants.{Damaged, NoEntry}
 use Rattle.bank.specs.declared.Found.{Found}
 
 -- ---- "a header with the entry count (16 bits, at most 1,024), then per entry a kind (16 bits: 0 sound, 1 alias), an offset and a block count (32 bits
@@ -48,28 +49,30 @@ is_entry end size n e = is_sound end size e || is_alias n e
 
 -- ---- damage
 
+-- what a check answers: nothing, or the damage
+abbrev pub Checked : Type 0
+Checked = Result (Unit {0}) Damage
+
 -- the first of two that is damage
-abbrev pub earlier : Damage → Damage → Damage
-earlier Nowhere d = d
-earlier InHeader d = InHeader
-earlier (AtEntry n) d = AtEntry n
+abbrev pub earlier : Checked → Checked → Checked
+earlier (Ok u) d = d
+earlier (Err e) d = Err e
 
 -- the first damage among the entries below n
-unfoldable pub damage_below : (ℕ → Bool) → ℕ → Damage
-damage_below isGoodAt zero = Nowhere
-damage_below isGoodAt (suc n) = earlier (damage_below isGoodAt n) (cond (isGoodAt n) Nowhere (AtEntry n))
+unfoldable pub damage_below : (ℕ → Bool) → ℕ → Checked
+damage_below isGoodAt zero = Ok tt
+damage_below isGoodAt (suc n) = earlier (damage_below isGoodAt n) (cond (isGoodAt n) (Ok tt) (Err (AtEntry n)))
 
 abbrev pub is_entry_at : List ℕ → ℕ → Bool
 is_entry_at bank n = is_entry (header_end (count_of bank)) (length bank) n (entry_at bank n)
 
 -- where a bank is damaged: nowhere, in its header, or at which entry first
-unfoldable pub damage_of : List ℕ → Damage
-damage_of bank = cond (is_header bank) (damage_below (is_entry_at bank) (count_of bank)) InHeader
+unfoldable pub damage_of : List ℕ → Checked
+damage_of bank = cond (is_header bank) (damage_below (is_entry_at bank) (count_of bank)) (Err InHeader)
 
-abbrev pub is_nowhere : Damage → Bool
-is_nowhere Nowhere = true
-is_nowhere InHeader = false
-is_nowhere (AtEntry n) = false
+abbrev pub is_nowhere : Checked → Bool
+is_nowhere (Ok u) = true
+is_nowhere (Err e) = false
 
 unfoldable pub is_good : List ℕ → Bool
 is_good bank = is_nowhere (damage_of bank)
@@ -88,32 +91,31 @@ sound_of entry n = leads_to entry n n
 -- ---- "We look a number up in two lent banks: the found sample is the caller's own bytes, from the title's bank or, where the title lacks that number, from
 -- the house's bank."
 
-abbrev pub nothing : ℕ → Found
-nothing number = record { number = number; house = false; entry = 0; offset = 0; length = 0 }
+-- "9 either bank damaged", "10 no such entry in either"
+abbrev pub number_of : Refusal → ℕ
+number_of Damaged = 9
+number_of NoEntry = 10
 
 unfoldable pub found_in : (isHouse : Bool) → List ℕ → ℕ → Found
 found_in isHouse bank n =
     let s = sound_of (entry_at bank) n in
-    record { number = 0; house = isHouse; entry = s; offset = (entry_at bank s).offset; length = (entry_at bank s).count * 16 }
+    record { house = isHouse; entry = s; offset = (entry_at bank s).offset; length = (entry_at bank s).count * 16 }
 
--- "9 either bank damaged", "10 no such entry in either"
-unfoldable pub found_of : (title house : List ℕ) → ℕ → Found
+unfoldable pub found_of : (title house : List ℕ) → ℕ → Result Found Refusal
 found_of title house n =
     cond (is_good title && is_good house)
-    (cond (ltb n (count_of title)) (found_in false title n) (cond (ltb n (count_of house)) (found_in true house n) (nothing 10)))
-    (nothing 9)
+    (cond (ltb n (count_of title)) (Ok (found_in false title n)) (cond (ltb n (count_of house)) (Ok (found_in true house n)) (Err NoEntry)))
+    (Err Damaged)
 
 -- the bytes of what is found, none where nothing is
-unfoldable pub part_of : (title house : List ℕ) → Found → List ℕ
-part_of title house f = take f.length (drop f.offset (cond f.house house title))
+unfoldable pub part_of : (title house : List ℕ) → Result Found Refusal → List ℕ
+part_of title house (Ok f) = take f.length (drop f.offset (cond f.house house title))
+part_of title house (Err r) = []
 
 abbrev pub lookup_of : (title house : List ℕ) → ℕ → List ℕ
 lookup_of title house n = part_of title house (found_of title house n)
 
--- ---- an entry as it stands in the file, good or not, for tools that list a bank: 9 if the header is damaged, 10 if there is no such entry
+-- ---- an entry as it stands in the file, good or not, for tools that list a bank; refused if the header is damaged, or if there is no such entry
 
-abbrev pub no_fields : ℕ → Fields
-no_fields number = record { number = number; entry = record { kind = 0; offset = 0; count = 0 } }
-
-unfoldable pub fields_of : List ℕ → ℕ → Fields
-fields_of bank n = cond (is_header bank) (cond (ltb n (count_of bank)) (record { number = 0; entry = entry_at bank n }) (no_fields 10)) (no_fields 9)
+unfoldable pub fields_of : List ℕ → ℕ → Result Entry Refusal
+fields_of bank n = cond (is_header bank) (cond (ltb n (count_of bank)) (Ok (entry_at bank n)) (Err NoEntry)) (Err Damaged)

@@ -2,13 +2,15 @@
 #![tactic(auto)]
 
 ghost use Rattle.std.specs.Prelude.{◌≡◌, true, ◌+◌, ◌*◌, ◌≤◌, ◌<◌, length};
-ghost use Rattle.bank.specs.Bank.{count_of, place_of, header_end, entry_at, is_header, is_sound as is_sound_of, is_alias as is_alias_of, is_entry as is_entry_of, damage_of, is_good as is_good_of, sound_of, found_in, found_of, lookup_of, nothing as nothing_of, fields_of};
+ghost use Rattle.bank.specs.Bank.{count_of, place_of, header_end, entry_at, is_header, is_sound as is_sound_of, is_alias as is_alias_of, is_entry as is_entry_of, damage_of, is_good, sound_of, found_in, found_of, lookup_of, fields_of, number_of};
+ghost use Rattle.bank.specs.declared.Refusal.TheVariants.{Damaged};
 
 use little_endian::{half_at, word_at};
 
 pub const MOST_ENTRIES: usize = 1024;
 
-#[derive(Clone, Copy)]
+// The kind stays the file's number, since `read_entry` gives an entry that is good or not.
+#[derive(Clone, Copy, Debug, PartialEq, Eq)]
 pub struct Entry {
     pub kind: u16,
     pub offset: u32,
@@ -16,25 +18,42 @@ pub struct Entry {
 }
 
 // Where a bank is damaged first.
-#[derive(Clone, Copy)]
+#[derive(Clone, Copy, Debug, PartialEq, Eq)]
 pub enum Damage {
-    Nowhere,
     InHeader,
     AtEntry(u32),
 }
 
-// An entry's fields, or why there are none.
-#[derive(Clone, Copy)]
-pub struct Fields {
-    pub number: u8,
-    pub entry: Entry,
+// Why nothing is read or found: a bank is damaged, or no bank has such an entry.
+#[derive(Clone, Copy, Debug, PartialEq, Eq)]
+pub enum Refusal {
+    Damaged,
+    NoEntry,
+}
+
+impl Refusal {
+    // The number that hosts know it by.
+    pub fn number(self) -> u8
+        ensures { result ≡ number_of self }
+    {
+        match self {
+            Refusal::Damaged => 9,
+            Refusal::NoEntry => 10,
+        }
+    }
+}
+
+impl From<Damage> for Refusal {
+    ghost from_gives = { λ _ r. r ≡ Damaged };
+
+    fn from(_damage: Damage) -> Refusal {
+        Refusal::Damaged
+    }
 }
 
 // What a lookup finds: in which bank, the sound's own entry, and where its bytes are.
-#[repr(C)]
-#[derive(Clone, Copy)]
+#[derive(Clone, Copy, Debug, PartialEq, Eq)]
 pub struct Found {
-    pub number: u8,
     pub house: bool,
     pub entry: u32,
     pub offset: usize,
@@ -71,13 +90,10 @@ fn entry_at(bank: &[u8], n: usize) -> Entry
     ensures { result ≡ entry_at bank.now n }
 {
     let at = 2 + n * 10;
-    let kind = half_at(bank, at);
-    let offset = word_at(bank, at + 2);
-    let count = word_at(bank, at + 6);
     Entry {
-        kind,
-        offset,
-        count,
+        kind: half_at(bank, at),
+        offset: word_at(bank, at + 2),
+        count: word_at(bank, at + 6),
     }
 }
 
@@ -106,68 +122,40 @@ pub fn is_entry(end: usize, size: usize, n: usize, e: Entry) -> bool
 // ---- damage
 
 // Where a bank is damaged: nowhere, in its header, or at which entry first.
-pub fn check(bank: &[u8]) -> Damage
+pub fn check(bank: &[u8]) -> Result<(), Damage>
     ensures { result ≡ damage_of bank.now }
 {
     if !has_header(bank) {
-        return Damage::InHeader;
+        return Err(Damage::InHeader);
     }
     let count = entry_count(bank);
     let end = header_end(count);
-    let size = bank.len();
     for n in 0..count as usize {
-        let e = entry_at(bank, n);
-        if !is_entry(end, size, n, e) {
-            return Damage::AtEntry(n as u32);
+        if !is_entry(end, bank.len(), n, entry_at(bank, n)) {
+            return Err(Damage::AtEntry(n as u32));
         }
     }
-    Damage::Nowhere
+    Ok(())
 }
 
-fn is_good(bank: &[u8]) -> bool
-    ensures { result ≡ is_good_of bank.now }
-{
-    let d = check(bank);
-    match d {
-        Damage::Nowhere => true,
-        Damage::InHeader => false,
-        Damage::AtEntry(_) => false,
-    }
-}
-
-// Entry n as it stands in the file, good or not. The number is 9 if the header is damaged, and 10 if there is no such entry.
-pub fn read_entry(bank: &[u8], n: u32) -> Fields
+// Entry n as it stands in the file, good or not.
+pub fn read_entry(bank: &[u8], n: u32) -> Result<Entry, Refusal>
     ensures { result ≡ fields_of bank.now n }
 {
-    let none = Entry {
-        kind: 0,
-        offset: 0,
-        count: 0,
-    };
     if !has_header(bank) {
-        return Fields {
-            number: 9,
-            entry: none,
-        };
+        return Err(Refusal::Damaged);
     }
     if entry_count(bank) as u32 <= n {
-        return Fields {
-            number: 10,
-            entry: none,
-        };
+        return Err(Refusal::NoEntry);
     }
-    let found = entry_at(bank, n as usize);
-    Fields {
-        number: 0,
-        entry: found,
-    }
+    Ok(entry_at(bank, n as usize))
 }
 
 // ---- lookup
 
 // The sound that entry n is, or leads to by its aliases.
 fn sound_of(bank: &[u8], n: u32) -> u32
-    requires { (is_good_of bank.now ≡ true) × (n < count_of bank.now) }
+    requires { (is_good bank.now ≡ true) × (n < count_of bank.now) }
     ensures { result ≡ sound_of (entry_at bank.now) n }
 {
     let e = entry_at(bank, n as usize);
@@ -177,26 +165,13 @@ fn sound_of(bank: &[u8], n: u32) -> u32
     sound_of(bank, e.offset)
 }
 
-fn nothing(number: u8) -> Found
-    ensures { result ≡ nothing_of number }
-{
-    Found {
-        number,
-        house: false,
-        entry: 0,
-        offset: 0,
-        length: 0,
-    }
-}
-
 fn find_in(house: bool, bank: &[u8], n: u32) -> Found
-    requires { (is_good_of bank.now ≡ true) × (n < count_of bank.now) }
+    requires { (is_good bank.now ≡ true) × (n < count_of bank.now) }
     ensures { result ≡ found_in house bank.now n }
 {
     let entry = sound_of(bank, n);
     let e = entry_at(bank, entry as usize);
     Found {
-        number: 0,
         house,
         entry,
         offset: e.offset as usize,
@@ -204,28 +179,28 @@ fn find_in(house: bool, bank: &[u8], n: u32) -> Found
     }
 }
 
-// Where sound n is. It is refused with 9 if either bank is damaged, and with 10 if neither has an entry n.
-pub fn find(title: &[u8], house: &[u8], n: u32) -> Found
+// Where sound n is. Both banks are judged whole before it is looked up.
+pub fn find(title: &[u8], house: &[u8], n: u32) -> Result<Found, Refusal>
     ensures { result ≡ found_of title.now house.now n }
 {
-    let good = is_good(title) & is_good(house);
-    if !good {
-        return nothing(9);
-    }
+    check(title)?;
+    check(house)?;
     if n < entry_count(title) as u32 {
-        return find_in(false, title, n);
+        return Ok(find_in(false, title, n));
     }
     if n < entry_count(house) as u32 {
-        return find_in(true, house, n);
+        return Ok(find_in(true, house, n));
     }
-    nothing(10)
+    Err(Refusal::NoEntry)
 }
 
-// The bytes of that sound, a part of one of the two banks; none if `find` refuses.
+// The bytes of that sound, a part of one of the two banks; none, at the title's start, if `find` refuses.
 pub fn lookup<'a>(title: &'a [u8], house: &'a [u8], n: u32) -> &'a [u8]
     ensures { result.now ≡ lookup_of title.now house.now n }
 {
-    let found = find(title, house, n);
+    let Ok(found) = find(title, house, n) else {
+        return &title[..0];
+    };
     let at = found.offset;
     let end = at + found.length;
     if found.house {

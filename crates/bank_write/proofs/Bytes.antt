@@ -1,22 +1,24 @@
 -- The bytes of a bank: their length, and what is read from them. Assumes nothing.
 use mathlib.Core.Path.{◌≡◌, refl, sym, ap, ◌∙◌}
-use mathlib.Core.Bool.{Bool, true, false, ◌&&◌, not}
+use mathlib.Core.Bool.{Bool, true, false, ◌&&◌}
 use mathlib.Core.List.{List, ◌++◌}
 use Prim.Native.Nat.{ℕ, ◌+◌, ◌≤◌, ◌<◌}
-use native.Mathlib.Numerals.{add-one}
 use native.Mathlib.Omega.{arith}
-use borrow.Author.Tests.{leb-true, eqb-true, not-true, not-false, le-leb, lt-leb}
+use borrow.Author.Tests.{leb-true, eqb-true, le-leb, lt-leb}
 use lib.Dec.{eqb, leb}
-use lib.ListN.{length, get_or, set, take, length-append}
-use lib.Seq.{length-take-le, take-suc, take_all}
+use lib.ListN.{length, length-append}
 use Rattle.fixed.proofs.Bools.{and_first, and_rest}
 use Rattle.little_endian.specs.Bytes.{half_bytes, word_bytes, Put}
-use Rattle.little_endian.proofs.Puts.{put_one_lem, put_then, put_at_lem, put_first, each_length}
+use Rattle.little_endian.proofs.Puts.{put_then, put_at_lem, put_first, each_length}
 use Rattle.little_endian.proofs.Stands.{Has, all, first, rest, part, half_read, word_read, each_read}
 use Rattle.bank.specs.declared.Entry.{Entry}
-use Rattle.bank.specs.declared.Damage.TheVariants.{Nowhere}
+use Rattle.std.specs.Prelude.{Ok, Err}
+use Rattle.std.proofs.lemmas.Slice.{take-put_mid, drop-put_mid, put_mid-paste}
+use Rattle.std.proofs.lemmas.List.Edits.{length-paste}
+use borrow.Rule.Slice.PartMut.{put_mid}
 use Rattle.bank.specs.Bank.{count_of, place_of, entry_at, is_entry, is_entry_at, damage_below, damage_of, is_nowhere, is_good}
 use Rattle.bank.proofs.Laws.{is_header_lem, below_more, below_found, below_same}
+use Rattle.bank_write.specs.declared.Refusal.TheVariants.{Damaged, ShortBuffer}
 use Rattle.bank_write.specs.Write.{Lists, entry_in, entries_in, entry_bytes, entries_bytes, header_bytes, bank_of, is_entry_in, are_sized, is_writable, written_of}
 
 pub entry_length : (e : Entry) → length (entry_bytes e) ≡ 10
@@ -36,29 +38,34 @@ entry_read {bs} n e h =
     let c = word_read {at = place_of n + 6} e.count (rest (half_bytes e.kind ++ word_bytes e.offset) (word_bytes e.count) h refl) in
     rw (k, o, c)
 
--- ---- the entries, one by one: b is the code's test of entry n
+-- ---- the entries, one by one: count is the code's count, end its header's end, x its entry n, b its test of that entry
 
-module _ (ls : Lists) (size n : ℕ) where
-  module _ {end : ℕ} {b : Bool} (e : end ≡ place_of (entries_in ls)) (f : b ≡ is_entry end size n (entry_in ls n)) (d : damage_below (is_entry_in ls size) n ≡ Nowhere) where
-    pub entries_more : not b ≡ false → damage_below (is_entry_in ls size) (n + 1) ≡ Nowhere
-    entries_more t = below_more (is_entry_in ls size) n d (rw (← e) (sym f ∙ not-false b t))
+module _ (ls : Lists) (size n : ℕ) {count : ℕ} (k : count ≡ entries_in ls) where
+  module _ {end : ℕ} {x : Entry} {b : Bool} (e : end ≡ place_of count) (g : x ≡ entry_in ls n) (f : b ≡ is_entry end size n x)
+      (d : damage_below (is_entry_in ls size) n ≡ Ok tt) where
+    judged : b ≡ is_entry_in ls size n
+    judged = f ∙ rw (e, k, g)
 
-    pub entries_not : not b ≡ true → n < entries_in ls → false ≡ is_nowhere (damage_below (is_entry_in ls size) (entries_in ls))
-    entries_not t h = rw (below_found (is_entry_in ls size) n (entries_in ls) d (rw (← e) (sym f ∙ not-true b t)) h)
+    pub entries_more : b ≡ true → damage_below (is_entry_in ls size) (n + 1) ≡ Ok tt
+    entries_more t = below_more (is_entry_in ls size) n d (sym judged ∙ t)
 
-  pub entries_all : damage_below (is_entry_in ls size) n ≡ Nowhere → n ≤ entries_in ls → entries_in ls ≤ n → true ≡ is_nowhere (damage_below (is_entry_in ls size) (entries_in ls))
-  entries_all d l h = let q : entries_in ls ≡ n = omega arith in rw (q, d)
+    pub entries_not : b ≡ false → n < count → false ≡ is_nowhere (damage_below (is_entry_in ls size) (entries_in ls))
+    entries_not t h = rw (below_found (is_entry_in ls size) n (entries_in ls) d (sym judged ∙ t) (rw (← k) h))
 
--- ---- the data, byte by byte
+  pub entries_all : damage_below (is_entry_in ls size) n ≡ Ok tt → n ≤ count → count ≤ n → true ≡ is_nowhere (damage_below (is_entry_in ls size) (entries_in ls))
+  entries_all d l h = let q : entries_in ls ≡ n = omega (arith, k) in rw (q, d)
 
-pub data_more : (ys : List ℕ) (n : ℕ) {xs xs' : List ℕ} {at : ℕ} → Put (take n ys) xs at xs' → n < length ys → at + n < length xs'
-    → Put (take (n + 1) ys) xs at (set xs' (at + n) (get_or ys n 0))
-data_more ys n {xs} {xs'} {at} p h g =
-    let l = length-take-le n ys (omega arith) in
-    rw (add-one, take-suc ys n 0 h) (put_at_lem p (put_one_lem xs' (at + n) (get_or ys n 0) g) (rw l))
+-- ---- the data
 
-pub data_end : (ys : List ℕ) (n : ℕ) {xs xs' : List ℕ} {at : ℕ} → Put (take n ys) xs at xs' → length ys ≤ n → Put ys xs at xs'
-data_end ys n p h = rw (take_all n ys h) at p
+-- zs is what the part holds after the copy
+pub data_put : (xs ys zs : List ℕ) (at k : ℕ) → zs ≡ ys → k ≡ length ys → at + length ys ≤ length xs → Put ys xs at (put_mid at k xs zs)
+data_put xs ys zs at k e n h =
+    rw (e, n)
+    record {
+      is = take-put_mid at (length ys) xs ys (at + length ys) refl (omega arith);
+      past = drop-put_mid at (length ys) xs ys (at + length ys) (omega arith) (omega arith) refl;
+      size = ap length (put_mid-paste at (length ys) xs ys ys (length ys) refl refl refl) ∙ length-paste xs at ys (length ys) h (omega arith);
+    }
 
 -- ---- a bank
 
@@ -71,9 +78,9 @@ module _ (ls : Lists) where
   unfolding bank_of
   bank_length body = length-append (header_bytes ls) body ∙ rw header_length
 
-  pub header_put : {xs xs₁ xs₂ : List ℕ} → Put (half_bytes (entries_in ls)) xs 0 xs₁ → Put (entries_bytes ls) xs₁ 2 xs₂ → Put (header_bytes ls) xs 0 xs₂
+  pub header_put : {xs xs₁ xs₂ : List ℕ} {count : ℕ} → count ≡ entries_in ls → Put (half_bytes count) xs 0 xs₁ → Put (entries_bytes ls) xs₁ 2 xs₂ → Put (header_bytes ls) xs 0 xs₂
   unfolding header_bytes
-  header_put a b = put_at_lem a b refl
+  header_put k a b = put_at_lem (rw k at a) b refl
 
   pub bank_put : (body : List ℕ) {xs xs₁ xs₂ : List ℕ} {end : ℕ} → end ≡ place_of (entries_in ls) → Put (header_bytes ls) xs 0 xs₁ → Put body xs₁ end xs₂
       → Put (bank_of ls body) xs 0 xs₂
@@ -127,20 +134,6 @@ sized_is ls t =
     let r = and_rest a (b && leb (entries_in ls) 1024) t in
     record { offsets = eqb-true _ _ (and_first a _ t); counts = eqb-true _ _ (and_first b _ r); most = leb-true _ _ (and_rest b _ r) }
 
--- t is the code's test
-module _ (ls : Lists) (body : List ℕ) {t : Bool} (e : t ≡ are_sized ls) where
-  pub not_sized : not t ≡ true → false ≡ is_writable ls body
-  unfolding is_writable
-  not_sized n = rw (← e, not-true t n)
-
-  module _ (n : not t ≡ false) where
-    pub sized : Sized ls
-    sized = sized_is ls (sym e ∙ not-false t n)
-
-    pub writable_as : {size : ℕ} {b : Bool} → size ≡ place_of (entries_in ls) + length body → b ≡ is_nowhere (damage_below (is_entry_in ls size) (entries_in ls)) → b ≡ is_writable ls body
-    unfolding is_writable
-    writable_as z f = rw (← e, not-false t n) (f ∙ rw z (written_good ls body sized.most))
-
 pub writable_sized : (ls : Lists) (body : List ℕ) → is_writable ls body ≡ true → Sized ls
 unfolding is_writable
 writable_sized ls body t = sized_is ls (and_first (are_sized ls) _ t)
@@ -149,26 +142,36 @@ pub writable_good : (ls : Lists) (body : List ℕ) → is_writable ls body ≡ t
 unfolding is_writable
 writable_good ls body t = and_rest (are_sized ls) _ t
 
--- ---- what `write` answers: w is the code's test, end the header's end, len the bank's length
+-- ---- what `write` answers
 
-module _ (ls : Lists) (body out : List ℕ) {w : Bool} (e : w ≡ is_writable ls body) where
-  pub write_9 : not w ≡ true → record { number = 9; length = 0; out = out } ≡ written_of ls body out
+pub write_unsized : (ls : Lists) (body out : List ℕ) → are_sized ls ≡ false → record { answer = Err Damaged; out = out } ≡ written_of ls body out
+unfolding written_of is_writable
+write_unsized ls body out t = rw t
+
+-- hs is what the code holds as the lists, count its count, end its header's end, and w its test of the entries
+module _ (ls : Lists) (body out : List ℕ) {hs : Lists} (q : hs ≡ ls) (sized : are_sized ls ≡ true) {count end : ℕ} (k : count ≡ entries_in hs) (f : end ≡ place_of count)
+    {w : Bool} (e : w ≡ is_nowhere (damage_below (is_entry_in hs (end + length body)) (entries_in hs))) where
+  end_is : end ≡ place_of (entries_in ls)
+  end_is = rw (f, k, q)
+
+  length_is : end + length body ≡ length (bank_of ls body)
+  length_is = rw (bank_length ls body, end_is)
+
+  tested : w ≡ is_writable ls body
+  unfolding is_writable
+  tested = rw sized (e ∙ rw (q, end_is) (written_good ls body (sized_is ls sized).most))
+
+  pub write_bad : w ≡ false → record { answer = Err Damaged; out = out } ≡ written_of ls body out
   unfolding written_of
-  write_9 t = rw (← e, not-true w t)
+  write_bad t = rw (← tested, t)
 
-  module _ (t : not w ≡ false) where
-    pub write_sized : Sized ls
-    write_sized = writable_sized ls body (sym e ∙ not-false w t)
+  module _ (t : w ≡ true) where
+    pub write_short : length out < end + length body → record { answer = Err ShortBuffer; out = out } ≡ written_of ls body out
+    unfolding written_of
+    write_short h = rw (← tested, t, ← length_is, lt-leb (end + length body) (length out) h)
 
-    module _ {end : ℕ} (f : end ≡ place_of (entries_in ls)) where
-      length_is : end + length body ≡ length (bank_of ls body)
-      length_is = rw (bank_length ls body, f)
-
-      pub write_24 : length out < end + length body → record { number = 24; length = 0; out = out } ≡ written_of ls body out
-      unfolding written_of
-      write_24 h = rw (← e, not-false w t, ← length_is, lt-leb (end + length body) (length out) h)
-
-      pub write_0 : {out₁ out₂ : List ℕ} → end + length body ≤ length out → Put (header_bytes ls) out 0 out₁ → Put body out₁ end out₂
-          → record { number = 0; length = end + length body; out = out₂ } ≡ written_of ls body out
-      unfolding written_of
-      write_0 h p q = rw (← e, not-false w t, ← length_is, le-leb (end + length body) (length out) h, put_first (bank_of ls body) (bank_put ls body f p q)) (rw length_is)
+    pub write_done : {out₁ out₂ : List ℕ} → end + length body ≤ length out → Put (header_bytes hs) out 0 out₁ → Put body out₁ end out₂
+        → record { answer = Ok (end + length body); out = out₂ } ≡ written_of ls body out
+    unfolding written_of
+    write_done h a b =
+        rw (← tested, t, ← length_is, le-leb (end + length body) (length out) h, put_first (bank_of ls body) (bank_put ls body end_is (rw q at a) b)) (rw length_is)

@@ -1,7 +1,9 @@
 -- Writing a sound bank: "entries, then the data as handed in" (document 02, M-100). Assumes nothing.
-use Rattle.std.specs.Prelude.{◌≡◌, Bool, true, cond, ◌&&◌, List, ◌++◌, ℕ, ◌*◌, ◌≤◌, ◌<◌, eqb, leb, length, get_or, take, drop}
+use Rattle.std.specs.Prelude.{◌≡◌, Bool, true, cond, ◌&&◌, List, ◌++◌, ℕ, ◌*◌, ◌≤◌, ◌<◌, eqb, leb, length, get_or, take, drop, Result, Ok, Err}
 use Rattle.little_endian.specs.Bytes.{each, half_bytes, word_bytes}
 use Rattle.bank.specs.declared.Entry.{Entry}
+use Rattle.bank_write.specs.declared.Refusal.{Refusal}
+use Rattle.bank_write.specs.declared.Refusal.TheVariants.{Damaged, ShortBuffer}
 use Rattle.bank.specs.Bank.{count_of, most_entries, header_end, entry_at, is_entry, is_good, sound_of, lookup_of}
 
 -- the entries that are handed in, as a list of each field
@@ -45,20 +47,24 @@ are_sized ls = eqb (length ls.offsets) (entries_in ls) && (eqb (length ls.counts
 unfoldable pub is_writable : Lists → List ℕ → Bool
 is_writable ls «data» = are_sized ls && is_good (bank_of ls «data»)
 
+-- "9 .. entries handed to the writer that break the rules"; "24 buffer shorter than the bank to be written"
+abbrev pub number_of : Refusal → ℕ
+number_of Damaged = 9
+number_of ShortBuffer = 24
+
+-- the bank's length or why it is refused, and the buffer
 pub record Written : Type 0 where
-  pub number : ℕ
-  pub length : ℕ
+  pub answer : Result ℕ Refusal
   pub out : List ℕ
 
--- "9 .. entries handed to the writer that break the rules"; "24 buffer shorter than the bank to be written"; "the buffer then stays, as do bytes past a
--- written bank"
+-- "the buffer then stays, as do bytes past a written bank"
 unfoldable pub written_of : Lists → («data» out : List ℕ) → Written
 written_of ls «data» out =
     let bank = bank_of ls «data» in
     cond (is_writable ls «data»)
-    (cond (leb (length bank) (length out)) (record { number = 0; length = length bank; out = bank ++ drop (length bank) out })
-    (record { number = 24; length = 0; out = out }))
-    (record { number = 9; length = 0; out = out })
+    (cond (leb (length bank) (length out)) (record { answer = Ok (length bank); out = bank ++ drop (length bank) out })
+    (record { answer = Err ShortBuffer; out = out }))
+    (record { answer = Err Damaged; out = out })
 
 -- ---- "reading it back gives the same entries and sounds"
 

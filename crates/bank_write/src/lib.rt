@@ -1,117 +1,142 @@
 // A sound bank, written from lists of its entries' fields and its data.
 #![tactic(auto)]
 
-ghost use Rattle.std.specs.Prelude.{◌≡◌, ◌+◌, ◌≤◌, length};
+ghost use Rattle.std.specs.Prelude.{◌≡◌, ◌+◌, ◌≤◌, ◌<◌, length, true, false, MatchOption};
 ghost use Rattle.little_endian.specs.Bytes.{Put};
-ghost use Rattle.bank.specs.Bank.{most_entries, place_of, damage_below, is_nowhere};
-ghost use Rattle.bank_write.specs.Write.{lists, entry_bytes, entries_bytes, header_bytes, is_entry_in, are_sized, is_writable, written_of};
+ghost use Rattle.bank.specs.Bank.{place_of, damage_below, is_nowhere};
+ghost use Rattle.bank_write.specs.Write.{lists, entry_in, entries_in, entry_bytes, entries_bytes, header_bytes, is_entry_in, are_sized, written_of, number_of};
+ghost use Rattle.bank_write.specs.Handed.{handed};
+
+mod lists;
 
 use bank::Entry;
+use lists::Lists;
 use little_endian::{put_half, put_word};
 
-// What a write answers. The length is 0 if it is refused.
-#[repr(C)]
-#[derive(Clone, Copy)]
-pub struct Written {
-    pub number: u8,
-    pub length: usize,
+// Why nothing is written: the entries and the data do not make a good bank, or the buffer is shorter than the bank.
+#[derive(Clone, Copy, Debug, PartialEq, Eq)]
+pub enum Refusal {
+    Damaged,
+    ShortBuffer,
 }
 
-// Whether each entry of the lists is good in a file of `size` bytes.
-fn are_entries(kinds: &[u16], offsets: &[u32], counts: &[u32], size: usize) -> bool
-    requires { (length kinds.now ≤ most_entries) × (length offsets.now ≡ length kinds.now) × (length counts.now ≡ length kinds.now) }
-    ensures { result ≡ is_nowhere (damage_below (is_entry_in (lists kinds.now offsets.now counts.now) size) (length kinds.now)) }
-{
-    let end = bank::header_end(kinds.len() as u16);
-    for n in 0..kinds.len() {
-        let e = Entry {
-            kind: kinds[n],
-            offset: offsets[n],
-            count: counts[n],
-        };
-        if !bank::is_entry(end, size, n, e) {
-            return false;
+impl Refusal {
+    // The number that hosts know it by.
+    pub fn number(self) -> u8
+        ensures { result ≡ number_of self }
+    {
+        match self {
+            Refusal::Damaged => 9,
+            Refusal::ShortBuffer => 24,
         }
     }
-    true
 }
 
-fn are_sized(kinds: &[u16], offsets: &[u32], counts: &[u32]) -> bool
-    ensures { result ≡ are_sized (lists kinds.now offsets.now counts.now) }
-{
-    let count = kinds.len();
-    (offsets.len() == count) & ((counts.len() == count) & (count <= bank::MOST_ENTRIES))
-}
-
-// Whether the lists and the data make a good bank.
-fn is_writable(kinds: &[u16], offsets: &[u32], counts: &[u32], data: &[u8]) -> bool
-    ensures { result ≡ is_writable (lists kinds.now offsets.now counts.now) «data».now }
-{
-    if !are_sized(kinds, offsets, counts) {
-        return false;
+impl<'a> Lists<'a> {
+    // None if they are of different lengths, or longer than a bank's.
+    fn new(kinds: &'a [u16], offsets: &'a [u32], counts: &'a [u32]) -> Option<Lists<'a>>
+        ensures { let ls = lists kinds.now offsets.now counts.now in MatchOption result (are_sized ls ≡ false) (λ l. (handed l ≡ ls) × (are_sized ls ≡ true)) }
+    {
+        let count = kinds.len();
+        let sized = (offsets.len() == count)
+            & ((counts.len() == count) & (count <= bank::MOST_ENTRIES));
+        if !sized {
+            return None;
+        }
+        Some(Lists {
+            kinds,
+            offsets,
+            counts,
+        })
     }
-    are_entries(
-        kinds,
-        offsets,
-        counts,
-        bank::header_end(kinds.len() as u16) + data.len(),
-    )
+
+    fn count(&self) -> u16
+        ensures { result ≡ entries_in (handed self.now) }
+    {
+        self.kinds.len() as u16
+    }
+
+    fn entry(&self, n: usize) -> Entry
+        requires { n < entries_in (handed self.now) }
+        ensures { result ≡ entry_in (handed self.now) n }
+    {
+        Entry {
+            kind: self.kinds[n],
+            offset: self.offsets[n],
+            count: self.counts[n],
+        }
+    }
+
+    // Whether each entry is good in a file of `size` bytes.
+    fn are_good(&self, size: usize) -> bool
+        ensures { result ≡ is_nowhere (damage_below (is_entry_in (handed self.now) size) (entries_in (handed self.now))) }
+    {
+        let count = self.count();
+        let end = bank::header_end(count);
+        for n in 0..count as usize {
+            if !bank::is_entry(end, size, n, self.entry(n)) {
+                return false;
+            }
+        }
+        true
+    }
+
+    fn put_entries(&self, out: &mut [u8])
+        requires { place_of (entries_in (handed self.now)) ≤ length out.old }
+        ensures { Put (entries_bytes (handed self.now)) out.old 2 out.new }
+    {
+        for n in 0..self.count() as usize {
+            put_entry(out, 2 + n * 10, self.entry(n));
+        }
+    }
+
+    fn put_header(&self, out: &mut [u8])
+        requires { place_of (entries_in (handed self.now)) ≤ length out.old }
+        ensures { Put (header_bytes (handed self.now)) out.old 0 out.new }
+    {
+        put_half(out, 0, self.count());
+        self.put_entries(out);
+    }
 }
 
-fn put_entry(out: &mut [u8], at: usize, kind: u16, offset: u32, count: u32)
+fn put_entry(out: &mut [u8], at: usize, e: Entry)
     requires { at + 10 ≤ length out.old }
-    ensures { Put (entry_bytes (record { kind = kind; offset = offset; count = count })) out.old at out.new }
+    ensures { Put (entry_bytes e) out.old at out.new }
 {
-    put_half(out, at, kind);
-    put_word(out, at + 2, offset);
-    put_word(out, at + 6, count);
-}
-
-fn put_entries(out: &mut [u8], kinds: &[u16], offsets: &[u32], counts: &[u32])
-    requires { (length kinds.now ≤ most_entries) × (length offsets.now ≡ length kinds.now) × (length counts.now ≡ length kinds.now) × (place_of (length kinds.now) ≤ length out.old) }
-    ensures { Put (entries_bytes (lists kinds.now offsets.now counts.now)) out.old 2 out.new }
-{
-    for n in 0..kinds.len() {
-        put_entry(out, 2 + n * 10, kinds[n], offsets[n], counts[n]);
-    }
-}
-
-fn put_header(out: &mut [u8], kinds: &[u16], offsets: &[u32], counts: &[u32])
-    requires { (length kinds.now ≤ most_entries) × (length offsets.now ≡ length kinds.now) × (length counts.now ≡ length kinds.now) × (place_of (length kinds.now) ≤ length out.old) }
-    ensures { Put (header_bytes (lists kinds.now offsets.now counts.now)) out.old 0 out.new }
-{
-    put_half(out, 0, kinds.len() as u16);
-    put_entries(out, kinds, offsets, counts);
+    put_half(out, at, e.kind);
+    put_word(out, at + 2, e.offset);
+    put_word(out, at + 6, e.count);
 }
 
 fn put_data(out: &mut [u8], at: usize, data: &[u8])
     requires { at + length «data».now ≤ length out.old }
     ensures { Put «data».now out.old at out.new }
 {
-    for n in 0..data.len() {
-        out[at + n] = data[n];
-    }
+    out[at..at + data.len()].copy_from_slice(data);
 }
 
-// Writes the count, the entries and the data. The number is 9 if they do not make a good bank, and 24 if the buffer is shorter than the bank.
-pub fn write(kinds: &[u16], offsets: &[u32], counts: &[u32], data: &[u8], out: &mut [u8]) -> Written
-    ensures { record { number = result.number; length = result.length; out = out.new } ≡ written_of (lists kinds.now offsets.now counts.now) «data».now out.old }
+// Writes the count, the entries and the data, and answers their length. A refusal leaves the buffer as it was.
+pub fn write(
+    kinds: &[u16],
+    offsets: &[u32],
+    counts: &[u32],
+    data: &[u8],
+    out: &mut [u8],
+) -> Result<usize, Refusal>
+    ensures { record { answer = result; out = out.new } ≡ written_of (lists kinds.now offsets.now counts.now) «data».now out.old }
 {
-    if !is_writable(kinds, offsets, counts, data) {
-        return Written {
-            number: 9,
-            length: 0,
-        };
-    }
-    let end = bank::header_end(kinds.len() as u16);
+    let Some(lists) = Lists::new(kinds, offsets, counts) else {
+        return Err(Refusal::Damaged);
+    };
+    let end = bank::header_end(lists.count());
     let length = end + data.len();
-    if out.len() < length {
-        return Written {
-            number: 24,
-            length: 0,
-        };
+    if !lists.are_good(length) {
+        return Err(Refusal::Damaged);
     }
-    put_header(out, kinds, offsets, counts);
+    if out.len() < length {
+        return Err(Refusal::ShortBuffer);
+    }
+    lists.put_header(out);
     put_data(out, end, data);
-    Written { number: 0, length }
+    Ok(length)
 }

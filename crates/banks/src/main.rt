@@ -2,83 +2,42 @@
 // reference, reference/banks.py, which makes both files.
 #![tactic(auto)]
 
-ghost use Rattle.std.specs.Prelude.{◌≡◌, ◌≤◌, length};
+ghost use Rattle.std.specs.Prelude.{◌≤◌};
 ghost use Rattle.std.specs.Io.{ReadsAtMost};
 
-use bank::Damage;
+use bank::{Damage, Entry};
 use std::io::Read;
 use std::rt::Files;
-use std::{fs, io};
+use std::{array, fs, io};
 
 const ROOM: usize = 512;
 
 // How many entries the title's bank has.
 const ENTRIES: usize = 6;
 
-// ---- output
-
-fn print_text(rt: &impl Print, text: &[u8]) -> io::Result<()> {
-    rt.write_all(text)
-}
-
-fn print_number(rt: &impl Print, n: u64, end: u8) -> io::Result<()> {
-    rt.print(n)?;
-    rt.write_all(&[end])
-}
-
-fn print_byte(rt: &impl Print, byte: u8) -> io::Result<()> {
-    print_text(rt, b" ")?;
-    print!(rt; "{byte:02x}")
-}
-
-fn print_bytes(rt: &impl Print, bytes: &[u8]) -> io::Result<()> {
-    for i in 0..bytes.len() {
-        print_byte(rt, bytes[i])?;
-    }
-    Ok(())
-}
-
 // ---- one bank
 
-fn print_place(rt: &impl Print, place: u64, entry: u32) -> io::Result<()> {
-    print_number(rt, place, b' ')?;
-    print_number(rt, entry as u64, b'\n')
-}
-
 fn print_damage(rt: &impl Print, bank: &[u8]) -> io::Result<()> {
-    let damage = bank::check(bank);
-    match damage {
-        Damage::Nowhere => print_place(rt, 0, 0),
-        Damage::InHeader => print_place(rt, 1, 0),
-        Damage::AtEntry(entry) => print_place(rt, 2, entry),
+    match bank::check(bank) {
+        Ok(()) => println!(rt; "0 0"),
+        Err(Damage::InHeader) => println!(rt; "1 0"),
+        Err(Damage::AtEntry(entry)) => println!(rt; "2 {entry}"),
     }
-}
-
-// The line of entry n, and whether there is one.
-fn print_entry(rt: &impl Print, bank: &[u8], n: u32) -> io::Result<bool> {
-    let fields = bank::read_entry(bank, n);
-    print_text(rt, b"entry ")?;
-    print_number(rt, n as u64, b' ')?;
-    print_number(rt, fields.number as u64, b' ')?;
-    print_number(rt, fields.entry.kind as u64, b' ')?;
-    print_number(rt, fields.entry.offset as u64, b' ')?;
-    print_number(rt, fields.entry.count as u64, b'\n')?;
-    Ok(fields.number == 0)
 }
 
 // Up to the first number without an entry.
 fn print_entries(rt: &impl Print, bank: &[u8]) -> io::Result<()> {
     for n in 0..1025u32 {
-        if !print_entry(rt, bank, n)? {
-            return Ok(());
+        match bank::read_entry(bank, n) {
+            Ok(e) => println!(rt; "entry {n} 0 {} {} {}", e.kind, e.offset, e.count)?,
+            Err(refusal) => return println!(rt; "entry {n} {} 0 0 0", refusal.number()),
         }
     }
     Ok(())
 }
 
-fn print_bank(rt: &impl Print, name: &[u8], bank: &[u8]) -> io::Result<()> {
-    print_text(rt, name)?;
-    print_number(rt, bank.len() as u64, b' ')?;
+fn print_bank(rt: &impl Print, name: &str, bank: &[u8]) -> io::Result<()> {
+    print!(rt; "{name} {} ", bank.len())?;
     print_damage(rt, bank)?;
     print_entries(rt, bank)
 }
@@ -86,129 +45,94 @@ fn print_bank(rt: &impl Print, name: &[u8], bank: &[u8]) -> io::Result<()> {
 // ---- two banks
 
 fn print_found(rt: &impl Print, title: &[u8], house: &[u8], n: u32) -> io::Result<()> {
-    let found = bank::find(title, house, n);
-    print_text(rt, b"find ")?;
-    print_number(rt, n as u64, b' ')?;
-    print_number(rt, found.number as u64, b' ')?;
-    print_number(rt, found.house as u64, b' ')?;
-    print_number(rt, found.entry as u64, b' ')?;
-    print_number(rt, found.offset as u64, b' ')?;
-    print_number(rt, found.length as u64, b'\n')
+    match bank::find(title, house, n) {
+        Ok(found) => println!(rt;
+            "find {n} 0 {} {} {} {}",
+            found.house as u8, found.entry, found.offset, found.length
+        ),
+        Err(refusal) => println!(rt; "find {n} {} 0 0 0 0", refusal.number()),
+    }
 }
 
-fn print_sound<'a>(rt: &impl Print, title: &'a [u8], house: &'a [u8], n: u32) -> io::Result<()> {
+fn print_sound(rt: &impl Print, title: &[u8], house: &[u8], n: u32) -> io::Result<()> {
     print_found(rt, title, house, n)?;
     let sound = bank::lookup(title, house, n);
-    print_text(rt, b"lookup ")?;
-    print_number(rt, n as u64, b' ')?;
-    rt.print(sound.len())?;
-    print_bytes(rt, sound)?;
-    print_text(rt, b"\n")
+    print!(rt; "lookup {n} {}", sound.len())?;
+    for byte in sound {
+        print!(rt; " {byte:02x}")?;
+    }
+    println!(rt)
 }
 
-fn print_sounds<'a>(rt: &impl Print, title: &'a [u8], house: &'a [u8]) -> io::Result<()> {
-    for n in 0..13u32 {
+fn print_sounds(rt: &impl Print, title: &[u8], house: &[u8]) -> io::Result<()> {
+    for n in (0..13).chain([0x10000, 0x80000000, 0xFFFFFFFF]) {
         print_sound(rt, title, house, n)?;
     }
-    print_sound(rt, title, house, 0x10000)?;
-    print_sound(rt, title, house, 0x80000000)?;
-    print_sound(rt, title, house, 0xFFFFFFFF)
+    Ok(())
 }
 
 // ---- a bank written again
 
-// What a buffer holds at an index before it is written into.
-fn pattern(i: usize) -> u8 {
-    (i % 251) as u8
-}
-
-fn filled() -> [u8; ROOM]
-    ensures { 512 ≡ length result }
-{
-    let mut out = [0u8; ROOM];
-    for i in 0..ROOM {
-        out[i] = pattern(i);
-    }
-    out
+// What a buffer holds before it is written into.
+fn filled() -> [u8; ROOM] {
+    array::from_fn(|i| (i % 251) as u8)
 }
 
 // How many bytes from an index on are not as they were.
-fn changed(out: &[u8; ROOM], from: usize) -> u64 {
-    let mut n = 0u64;
-    for i in from..ROOM {
-        if out[i] != pattern(i) {
-            n += 1;
-        }
-    }
-    n
+fn changed(out: &[u8; ROOM], from: usize) -> usize {
+    out.iter()
+        .zip(&filled())
+        .skip(from)
+        .filter(|(now, then)| now != then)
+        .count()
 }
 
-fn begins(out: &[u8; ROOM], bank: &[u8]) -> bool {
-    if ROOM < bank.len() {
-        return false;
-    }
-    for i in 0..bank.len() {
-        if out[i] != bank[i] {
-            return false;
-        }
-    }
-    true
-}
-
-// The bank of these lists and data, written into the first `room` bytes of a buffer: the number, the length, whether the buffer then begins with
+// The bank of these entries and data, written into the first `room` bytes of a buffer: the number, the length, whether the buffer then begins with
 // `bank`, and how many bytes past the length changed.
 fn print_written(
     rt: &impl Print,
-    kinds: &[u16; ENTRIES],
-    offsets: &[u32; ENTRIES],
-    counts: &[u32; ENTRIES],
+    entries: &[Entry; ENTRIES],
     data: &[u8],
     room: usize,
     bank: &[u8],
 ) -> io::Result<()>
     requires { room ≤ 512 }
 {
+    let kinds = entries.map(|e| e.kind);
+    let offsets = entries.map(|e| e.offset);
+    let counts = entries.map(|e| e.count);
     let mut out = filled();
-    let written = bank_write::write(kinds, offsets, counts, data, &mut out[..room]);
-    print_text(rt, b"write ")?;
-    print_number(rt, written.number as u64, b' ')?;
-    print_number(rt, written.length as u64, b' ')?;
-    print_number(rt, begins(&out, bank) as u64, b' ')?;
-    print_number(rt, changed(&out, written.length), b'\n')
-}
-
-fn collect(
-    bank: &[u8],
-    kinds: &mut [u16; ENTRIES],
-    offsets: &mut [u32; ENTRIES],
-    counts: &mut [u32; ENTRIES],
-) {
-    for n in 0..ENTRIES {
-        let fields = bank::read_entry(bank, n as u32);
-        kinds[n] = fields.entry.kind;
-        offsets[n] = fields.entry.offset;
-        counts[n] = fields.entry.count;
-    }
+    let written = bank_write::write(&kinds, &offsets, &counts, data, &mut out[..room]);
+    let (number, length) = match written {
+        Ok(length) => (0, length),
+        Err(refusal) => (refusal.number(), 0),
+    };
+    let begins = out.starts_with(bank) as u8;
+    println!(rt;
+        "write {number} {length} {begins} {}",
+        changed(&out, length)
+    )
 }
 
 // A bank from its own entries and data: in room enough, in a byte too little, and with entry 3 an alias of itself.
 fn print_writes(rt: &impl Print, bank: &[u8]) -> io::Result<()> {
-    let mut kinds = [0u16; ENTRIES];
-    let mut offsets = [0u32; ENTRIES];
-    let mut counts = [0u32; ENTRIES];
-    collect(bank, &mut kinds, &mut offsets, &mut counts);
+    let none = Entry {
+        kind: 0,
+        offset: 0,
+        count: 0,
+    };
+    let mut entries: [Entry; ENTRIES] = array::from_fn(|n| bank::read_entry(
+        bank, n as u32,
+    ).unwrap_or(none));
     let end = bank::header_end(ENTRIES as u16);
-    if bank.len() <= end {
-        return Ok(());
-    }
-    if ROOM < bank.len() {
+    if bank.len() <= end || ROOM < bank.len() {
         return Ok(());
     }
     let data = &bank[end..];
-    print_written(rt, &kinds, &offsets, &counts, data, ROOM, bank)?;
-    print_written(rt, &kinds, &offsets, &counts, data, bank.len() - 1, bank)?;
-    offsets[3] = 3;
-    print_written(rt, &kinds, &offsets, &counts, data, ROOM, bank)
+    print_written(rt, &entries, data, ROOM, bank)?;
+    print_written(rt, &entries, data, bank.len() - 1, bank)?;
+    entries[3].offset = 3;
+    print_written(rt, &entries, data, ROOM, bank)
 }
 
 // ---- the program
@@ -241,20 +165,20 @@ fn read_file<R: Files + Eprint>(rt: &R, path: &str, buffer: &mut [u8]) -> io::Re
     }
 }
 
-fn print_good<'a>(rt: &impl Print, title: &'a [u8], house: &'a [u8]) -> io::Result<()> {
-    print_bank(rt, b"title ", title)?;
-    print_bank(rt, b"house ", house)?;
+fn print_good(rt: &impl Print, title: &[u8], house: &[u8]) -> io::Result<()> {
+    print_bank(rt, "title", title)?;
+    print_bank(rt, "house", house)?;
     print_sounds(rt, title, house)?;
     print_writes(rt, title)
 }
 
 // Entry 9 of the house's bank is made to lead to itself.
 fn print_damaged(rt: &impl Print, title: &[u8], house: &mut [u8]) -> io::Result<()> {
-    if house.len() <= 94 {
+    let Some(offset) = house.get_mut(94) else {
         return Ok(());
-    }
-    house[94] = 9;
-    print_bank(rt, b"damaged ", house)?;
+    };
+    *offset = 9;
+    print_bank(rt, "damaged", house)?;
     print_sound(rt, title, house, 0)?;
     print_sound(rt, title, house, 6)
 }

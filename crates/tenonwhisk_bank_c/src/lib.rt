@@ -4,11 +4,9 @@
 ghost use Rattle.std.specs.Prelude.{◌≡◌};
 ghost use Rattle.bank.specs.Bank.{damage_of, fields_of, found_of};
 ghost use Rattle.bank_write.specs.Write.{lists, written_of};
-ghost use Rattle.tenonwhisk_bank.specs.Calls.{checked_of, listed_of};
+ghost use Rattle.tenonwhisk_bank.specs.Calls.{checked_of, listed_of, found_record, written_record};
 
-use bank::Found;
-use bank_write::Written;
-use tenonwhisk_bank::{Checked, Listed};
+use tenonwhisk_bank::{Checked, Found, Listed, Written};
 
 #[unsafe(no_mangle)]
 pub extern "C" fn tenonwhisk_bank_check(bank: &[u8]) -> Checked
@@ -26,7 +24,7 @@ pub extern "C" fn tenonwhisk_bank_entry(bank: &[u8], n: u32) -> Listed
 
 #[unsafe(no_mangle)]
 pub extern "C" fn tenonwhisk_bank_find(title: &[u8], house: &[u8], n: u32) -> Found
-    ensures { result ≡ found_of title.now house.now n }
+    ensures { result ≡ found_record (found_of title.now house.now n) }
 {
     tenonwhisk_bank::tenonwhisk_bank_find(title, house, n)
 }
@@ -39,7 +37,7 @@ pub extern "C" fn tenonwhisk_bank_write(
     data: &[u8],
     out: &mut [u8],
 ) -> Written
-    ensures { record { number = result.number; length = result.length; out = out.new } ≡ written_of (lists kinds.now offsets.now counts.now) «data».now out.old }
+    ensures { let w = written_of (lists kinds.now offsets.now counts.now) «data».now out.old in (result ≡ written_record w.answer) × (out.new ≡ w.out) }
 {
     tenonwhisk_bank::tenonwhisk_bank_write(kinds, offsets, counts, data, out)
 }

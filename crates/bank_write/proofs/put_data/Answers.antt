@@ -1,15 +1,6 @@
-use borrow.Author.Rules.{rules}
-use Rattle.little_endian.proofs.Puts.{put_none}
-use Rattle.bank_write.proofs.Bytes.{data_more, data_end}
+use native.Mathlib.Omega.{arith}
+use Rattle.bank_write.proofs.Bytes.{data_put}
 use Rattle.bank_write.proofs.put_data.Goals as goal
 
-pub loop-n-init : goal.loop-n-init
-loop-n-init c = (search rules, put_none _ _)
-
-pub loop-n-preserved : goal.loop-n-preserved
-loop-n-preserved c =
-    let v = c.loop-n.invariant in
-    (search rules, data_more _ _ v.1 (search rules) (search rules))
-
 pub returns : goal.returns
-returns c = data_end _ _ c.loop-n.invariant.1 c.loop-n-test.false
+returns c = data_put _ _ _ _ _ c.copy_from_slice.ensures.after (omega arith) c.requires
