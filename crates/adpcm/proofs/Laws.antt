@@ -1,21 +1,25 @@
 -- Laws of the ADPCM definitions. Assumes nothing.
 use mathlib.Core.Path.{◌≡◌, refl, sym, ap, ap₂, subst, ◌∙◌}
 use mathlib.Core.Bool.{Bool}
-use mathlib.Core.List.{List, [], ◌∷◌, ◌++◌, append_assoc, append-nil}
+use mathlib.Core.List.{List, [], ◌∷◌, ◌++◌, map, append_assoc, append-nil}
 use Prim.Native.Nat.{ℕ, zero, suc, ◌+◌, ◌-◌, ◌*◌, ◌/◌, ◌%◌, ◌^◌, ◌≤◌, ◌<◌}
 use native.Mathlib.Decide.{dec_le}
 use native.Mathlib.Numerals.{add-one}
 use native.Mathlib.Omega.{arith}
-use lib.ListN.{length, take, drop, get_or, set, length-drop, length-set, drop_of_length-le}
-use lib.Seq.{take-suc-set, take_all, drop-cons, get_or-drop, get_or-set_same, get_or-set_other}
+use lib.Dec.{T}
+use lib.ListN.{length, get_or-map, take, drop, get_or, set, length-drop, length-set, drop_of_length-le}
+use lib.Seq.{length-take-le, get_or-take, take-suc-set, take_all, drop-cons}
 use lib.IntN.{ℤ, pos, ◌+ℤ◌, ◌*ℤ◌}
 use lib.Signed.{shr_z}
-use borrow.Author.Count.{below_more}
 use borrow.Author.Tests.{lt-ltb, le-ltb}
 use Rattle.fixed.specs.Bits.{field}
 use Rattle.fixed.specs.Signed.{signed}
 use Rattle.fixed.specs.Arithmetic.{floor_div}
-use Rattle.fixed.proofs.Table.{below, below_at, eq_z, eq_z→eq}
+use Rattle.fixed.specs.Range.{In}
+use Rattle.fixed.proofs.Number.{Room}
+use Rattle.fixed.proofs.Table.{below, below_at, eq_z, eq_z→eq, holds, entry}
+use mir.Syntax.{w32}
+use mir.Val.{to_z, of_z}
 use Rattle.adpcm.specs.Adpcm.{acts_as, header_of, k0_of, k1_of, predicted_of, sample_of, samples_of, nibbles_of, block_of, after_of}
 use Rattle.adpcm.specs.declared.Header.{Header}
 use Rattle.adpcm.specs.declared.History.{History}
@@ -96,65 +100,62 @@ at (b ∷ bs) (suc zero) (suc j) k h e = absurd (none e)
     none e = omega arith
 at (b ∷ bs) (suc (suc i)) (suc j) k h e = at bs i j k h (omega arith)
 
--- those of byte i past the first two of a block
-nibble_low : (bytes : List ℕ) (i : ℕ) → get_or bytes (2 + i) 0 % 16 ≡ get_or (nibbles_of (drop 2 bytes)) (i * 2) 0
-nibble_low bytes i = sym (at (drop 2 bytes) (i * 2) i 0 (omega arith) (omega arith) ∙ ap (λ (b : ℕ). b % 16) (get_or-drop 2 bytes i 0))
+-- those of byte i, which is b
+nibble_low : (bs : List ℕ) (i : ℕ) {b : ℕ} → b ≡ get_or bs i 0 → b % 16 ≡ get_or (nibbles_of bs) (i * 2) 0
+nibble_low bs i e = ap (λ (b : ℕ). b % 16) e ∙ sym (at bs (i * 2) i 0 (omega arith) (omega arith))
 
-nibble_high : (bytes : List ℕ) (i : ℕ) → get_or bytes (2 + i) 0 / 16 % 16 ≡ get_or (nibbles_of (drop 2 bytes)) (i * 2 + 1) 0
-nibble_high bytes i = sym (at (drop 2 bytes) (i * 2 + 1) i 1 (omega arith) (omega arith) ∙ ap (λ (b : ℕ). b / 16 % 16) (get_or-drop 2 bytes i 0))
-
--- ---- a block, copied
-
--- the first i bytes of it
-abbrev pub Copied : List ℕ → List ℕ → ℕ → ℕ → Type 0
-Copied bytes block at i = (k : ℕ) → k < i → (get_or block k 0 ≡ get_or bytes (at + k) 0) × (get_or block k 0 < 256)
-
-pub copied_more : (bytes block : List ℕ) (at i : ℕ) {v : ℕ} → length block ≡ 16 → i < 16 → v ≡ get_or bytes (at + i) 0 → v < 256 → Copied bytes block at i → Copied bytes (set block i v) at (i + 1)
-copied_more bytes block at i {v} l h e b f =
-    below_more (λ (k : ℕ). (get_or (set block i v) k 0 ≡ get_or bytes (at + k) 0) × (get_or (set block i v) k 0 < 256)) i
-    (λ k p. rw (get_or-set_other block i k v 0 (other k p)) (f k p))
-    (rw (get_or-set_same block i v 0 (omega arith)) (e, b))
-  where
-    other : (k : ℕ) → k < i → k ≡ i → ⊥
-    other k p q = omega arith
+nibble_high : (bs : List ℕ) (i : ℕ) {b : ℕ} → b ≡ get_or bs i 0 → b / 16 % 16 ≡ get_or (nibbles_of bs) (i * 2 + 1) 0
+nibble_high bs i e = ap (λ (b : ℕ). b / 16 % 16) e ∙ sym (at bs (i * 2 + 1) i 1 (omega arith) (omega arith))
 
 -- ---- a block's samples, one by one
 
--- of all the samples of a block with the header h, the first i stand in out, and the others come after old and older
-pub record Part (h : Header) (bytes : List ℕ) (all out : List ℤ) (old older : ℤ) (i : ℕ) : Type 0 where
-  pub rest : all ≡ take i out ++ samples_of h (drop i (nibbles_of (drop 2 bytes))) old older
+-- of all the samples of a block with the header h, the first i stand in out, and the others come after those of `last`
+pub record Part (h : Header) (bytes : List ℕ) (all out : List ℤ) (last : History) (i : ℕ) : Type 0 where
+  pub rest : all ≡ take i out ++ samples_of h (drop i (nibbles_of (drop 2 bytes))) last.old last.older
+
+-- the bytes of the nibbles, as the loop has them
+abbrev pub data_of : List ℕ → List ℕ
+data_of bytes = take 14 (drop 2 bytes)
+
+data_length : (bytes : List ℕ) → length bytes ≡ 16 → length (data_of bytes) ≡ 14
+data_length bytes b = let d = length-drop 2 bytes in length-take-le 14 (drop 2 bytes) (omega arith)
 
 count : (bytes : List ℕ) → length bytes ≡ 16 → length (nibbles_of (drop 2 bytes)) ≡ 28
 count bytes b = let n = nibbles_length (drop 2 bytes) in let d = length-drop 2 bytes in omega arith
 
 module _ {h : Header} {bytes : List ℕ} where
-  pub part_none : (out : List ℤ) (old older : ℤ) → h ≡ header_of (get_or bytes 0 0) → Part h bytes (block_of bytes old older) out old older 0
+  pub part_none : (out : List ℤ) (last : History) → h ≡ header_of (get_or bytes 0 0) → Part h bytes (block_of bytes last.old last.older) out last 0
   unfolding block_of
-  part_none out old older e = record { rest = rw e }
+  part_none out last e = record { rest = rw e }
 
-  part_more : {all out : List ℤ} {old older : ℤ} {i : ℕ} (x : ℤ) (t : ℕ) → Part h bytes all out old older i → length bytes ≡ 16 → length out ≡ 28 → i < 28
-      → t ≡ get_or (nibbles_of (drop 2 bytes)) i 0 → x ≡ sample_of t h old older → Part h bytes all (set out i x) x old (i + 1)
+  part_more : {all out : List ℤ} {last : History} {i : ℕ} (x : ℤ) (t : ℕ) → Part h bytes all out last i → length bytes ≡ 16 → length out ≡ 28 → i < 28
+      → t ≡ get_or (nibbles_of (drop 2 bytes)) i 0 → x ≡ sample_of t h last.old last.older → Part h bytes all (set out i x) (record { old = x; older = last.old }) (i + 1)
   unfolding samples_of
   part_more {out = out} {i = i} x t p b o l e f =
       let n = count bytes b in
       record { rest = p.rest ∙ rw (drop-cons (nibbles_of (drop 2 bytes)) i 0 (omega arith), ← e, ← f, add-one i, take-suc-set out i x (omega arith), append_assoc) }
 
   -- both samples of byte i past the first two
-  pub part_byte : {all out : List ℤ} {old older : ℤ} {i : ℕ} (x y : ℤ) → Part h bytes all out old older (i * 2) → length bytes ≡ 16 → length out ≡ 28 → i < 14
-      → x ≡ sample_of (get_or bytes (2 + i) 0 % 16) h old older → y ≡ sample_of (get_or bytes (2 + i) 0 / 16 % 16) h x old
-      → Part h bytes all (set (set out (i * 2) x) (i * 2 + 1) y) y x ((i + 1) * 2)
-  part_byte {all} {out} {old} {i = i} x y p b o l e f =
-      let k : i * 2 + 1 + 1 ≡ (i + 1) * 2 = omega arith in
-      let q = part_more x _ p b o (omega arith) (nibble_low bytes i) e in
-      let r = part_more y _ q b (length-set out (i * 2) x ∙ o) (omega arith) (nibble_high bytes i) f in
-      subst (λ (j : ℕ). Part h bytes all (set (set out (i * 2) x) (i * 2 + 1) y) y x j) k r
+  pub part_byte : {all out : List ℤ} {last between after : History} {i : ℕ} (x y : ℤ) → Part h bytes all out last (i * 2) → length bytes ≡ 16 → length out ≡ 28
+      → i < length (data_of bytes)
+      → x ≡ sample_of (get_or (data_of bytes) i 0 % 16) h last.old last.older → between ≡ record { old = x; older = last.old }
+      → y ≡ sample_of (get_or (data_of bytes) i 0 / 16 % 16) h between.old between.older → after ≡ record { old = y; older = between.old }
+      → Part h bytes all (set (set out (i * 2) x) (i * 2 + 1) y) after ((i + 1) * 2)
+  part_byte {all} {out} {last} {between} {after} {i} x y p n o l e f g k =
+      let c = data_length bytes n in
+      let d : get_or (data_of bytes) i 0 ≡ get_or (drop 2 bytes) i 0 = get_or-take 14 (drop 2 bytes) i 0 (omega arith) in
+      let next : i * 2 + 1 + 1 ≡ (i + 1) * 2 = omega arith in
+      let q = part_more x _ p n o (omega arith) (nibble_low (drop 2 bytes) i d) e in
+      let r = subst (λ (s : History). Part h bytes all (set out (i * 2) x) s (i * 2 + 1)) (sym f) q in
+      rw (k, ← next) (part_more y _ r n (length-set out (i * 2) x ∙ o) (omega arith) (nibble_high (drop 2 bytes) i d) g)
 
   -- o and p are the two samples before, as the loop has them
-  pub part_all : {out : List ℤ} {o p old older a b : ℤ} {i : ℕ} → Part h bytes (block_of bytes o p) out a b (i * 2) → length bytes ≡ 16 → length out ≡ 28
-      → 14 ≤ i → o ≡ old → p ≡ older → out ≡ block_of bytes old older
+  pub part_all : {out : List ℤ} {o p old older : ℤ} {last : History} {i : ℕ} → Part h bytes (block_of bytes o p) out last (i * 2) → length bytes ≡ 16 → length out ≡ 28
+      → length (data_of bytes) ≤ i → o ≡ old → p ≡ older → out ≡ block_of bytes old older
   unfolding samples_of
   part_all {out = out} {i = i} r b o l e f =
       let n = count bytes b in
+      let m = data_length bytes b in
       sym
       (ap₂ (block_of bytes) (sym e) (sym f)
       ∙ r.rest
@@ -174,3 +175,12 @@ after_last h (x ∷ []) n e = absurd (omega arith)
 after_last h (x ∷ y ∷ []) n e = let q : n ≡ 0 = omega arith in rw q
 after_last h (x ∷ y ∷ z ∷ xs) zero e = absurd (omega arith)
 after_last h (x ∷ y ∷ z ∷ xs) (suc n) e = after_last (record { old = x; older = h.old }) (y ∷ z ∷ xs) n (omega arith)
+
+-- ---- the factors
+
+-- an entry of the code's table xs of pairs, by one part of it: the definition's f, from -l to h
+pub pair_entry : (f : ℕ → ℤ) (l h : ℕ) (part : ℤ × ℤ → ℤ) (xs : List (ℤ × ℤ)) (n : ℕ) → T (below n (holds f l h (map part xs))) → part (pos 0, pos 0) ≡ pos 0
+    → (k : ℕ) → k < n → Room w32 l h → let x = part (get_or xs k (pos 0, pos 0)) in (to_z w32 (of_z w32 x) ≡ f k) × In l h (to_z w32 (of_z w32 x))
+pair_entry f l h part xs n t z k p m =
+    subst (λ (x : ℤ). (to_z w32 (of_z w32 x) ≡ f k) × In l h (to_z w32 (of_z w32 x)))
+    (ap (get_or (map part xs) k) (sym z) ∙ get_or-map part xs k (pos 0, pos 0)) (entry f l h (map part xs) n t w32 k p m)

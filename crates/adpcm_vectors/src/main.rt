@@ -2,26 +2,16 @@
 // outside decoder's.
 #![tactic(auto)]
 
+use adpcm::History;
 use std::fs::File;
 use std::io;
 use std::io::{ErrorKind, Read};
 
 const BLOCKS: u32 = 288;
 
-fn print_sample(rt: &impl Print, x: i16, end: u8) -> io::Result<()> {
-    let bits = fixed::to_bits(x) as u64;
-    if bits < 0x8000 {
-        rt.print(bits)?;
-    } else {
-        rt.write_all(b"-")?;
-        rt.print(0x10000 - bits)?;
-    }
-    rt.write_all(&[end])
-}
-
 fn print_block(rt: &impl Print, samples: [i16; 28]) -> io::Result<()> {
-    for i in 0..28usize {
-        print_sample(rt, samples[i], if i == 27 { b'\n' } else { b' ' })?;
+    for (i, x) in samples.iter().enumerate() {
+        print!(rt; "{x}{}", if i == 27 { '\n' } else { ' ' })?;
     }
     Ok(())
 }
@@ -35,15 +25,16 @@ fn read_full(file: &mut impl Read, bytes: &mut [u8]) -> io::Result<()> {
 }
 
 fn decode_all(rt: &impl Print, file: &mut impl Read) -> io::Result<()> {
-    let mut old = 0i16;
-    let mut older = 0i16;
+    let mut h = History::default();
     for _ in 0..BLOCKS {
         let mut bytes = [0u8; 16];
         read_full(file, &mut bytes)?;
-        let samples = adpcm::decode(bytes, old, older);
+        let samples = adpcm::decode(bytes, h.old, h.older);
         print_block(rt, samples)?;
-        old = samples[27];
-        older = samples[26];
+        h = History {
+            old: samples[27],
+            older: samples[26],
+        };
     }
     Ok(())
 }

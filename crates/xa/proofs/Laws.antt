@@ -1,23 +1,32 @@
 -- Laws of the XA definitions. Assumes nothing.
-use mathlib.Core.Path.{◌≡◌, refl, sym, ap, ◌∙◌}
-use mathlib.Core.Bool.{Bool, true, false, cond, not}
+use mathlib.Core.Path.{◌≡◌, refl, sym, ap, ap₂, ◌∙◌}
+use mathlib.Core.Bool.{Bool, true, false, cond, ◌&&◌}
 use mathlib.Core.List.{List, [], ◌∷◌, ◌++◌}
 use Prim.Native.Nat.{ℕ, zero, suc, ◌+◌, ◌-◌, ◌*◌, ◌/◌, ◌%◌, ◌≤◌, ◌<◌}
 use native.Mathlib.Numerals.{add-one}
 use native.Mathlib.Nat.{div-one, mul-le-mul_right}
 use native.Mathlib.Omega.{arith}
-use borrow.Author.Tests.{ne_eqb, eqb-true, not-true, not-false}
-use lib.ListN.{length, set, length-append}
+use native.Mathlib.Decide.{ℕ_discrete}
+use borrow.Author.Tests.{eq-eqb, ne_eqb}
+use lib.ListN.{length, set, take, drop, get_or, length-append, length-drop}
+use lib.Seq.{get_or-take, get_or-drop}
 use lib.IntN.{ℤ}
 use lib.Dec.{eqb}
 use Rattle.fixed.specs.Bits.{field}
-use Rattle.fixed.proofs.Bools.{and_first, and_rest}
+use Rattle.std.specs.List.{list_all}
+use Rattle.std.specs.Simd.{first_chunks}
+use Rattle.std.specs.Cmp.Lexicographic.{pointwise}
+use Rattle.fixed.specs.Tests.{all_below}
+use Rattle.fixed.proofs.Bools.{all_and}
 use Rattle.adpcm.specs.declared.Header.{Header}
 use Rattle.adpcm.specs.declared.History.{History}
 use Rattle.adpcm.specs.Adpcm.{acts_as, sample_of, samples_of, after_of}
 use Rattle.adpcm.proofs.Laws.{acts_most, after_append}
+use Rattle.std.specs.Prelude.{Err, Ok}
 use Rattle.xa.specs.declared.Histories.{Histories}
-use Rattle.xa.specs.Xa.{byte_of, are_copied, header_byte, header_of, nibble_of, nibbles_of, unit_of, channel_of, mono_of, left_of, right_of, alternate_of, placed_of, is_sized, number_of, accepted_of, decoded_of}
+use Rattle.xa.specs.declared.Refusal.{Refusal}
+use Rattle.xa.specs.declared.Refusal.TheVariants.{HeaderCopies, EightBit, Lengths}
+use Rattle.xa.specs.Xa.{byte_of, is_copied, is_group_copied, are_copied, header_byte, header_of, nibble_of, nibbles_of, unit_of, channel_of, mono_of, left_of, right_of, alternate_of, placed_of, is_sized, refused_with, number_of, answer_of, accepted_of, decoded_of}
 
 -- ---- the header
 
@@ -63,20 +72,18 @@ module _ {sector : List ℕ} {n : ℕ} {h : Header} {at step : ℕ} {before : Li
   unfolding unit_of
   part_none e = let q : at + 0 * step ≡ at = omega arith in record { placed = rw (q, e); after = rw e }
 
-  pub part_more : {out : List ℤ} {last : History} {j : ℕ} (t : ℕ) (x : ℤ) → Part sector n h at step before first out last j → j < 28 → t ≡ nibble_of sector n j
-      → x ≡ sample_of t h last.old last.older → Part sector n h at step before first (set out (at + j * step) x) (record { old = x; older = last.old }) (j + 1)
+  pub part_more : {out : List ℤ} {last next : History} {j : ℕ} {t : ℕ} {x : ℤ} → Part sector n h at step before first out last j → j < 28 → t ≡ nibble_of sector n j
+      → x ≡ sample_of t h last.old last.older → next ≡ record { old = x; older = last.old } → Part sector n h at step before first (set out (at + j * step) x) next (j + 1)
   unfolding nibbles_of samples_of placed_of after_of
-  part_more {j = j} t x p l e f =
+  part_more {j = j} p l e f g =
       let k : 28 - j ≡ suc (28 - (j + 1)) = omega arith in
       let q : at + (j + 1) * step ≡ at + j * step + step = omega arith in
-      record { placed = p.placed ∙ rw (k, q, add-one j, ← e, ← f); after = p.after ∙ rw (k, add-one j, ← e, ← f) }
+      rw g (record { placed = p.placed ∙ rw (k, q, add-one j, ← e, ← f); after = p.after ∙ rw (k, add-one j, ← e, ← f) })
 
--- o and p are the two samples before, as the loop has them
-pub part_all : {sector : List ℕ} {n : ℕ} {h : Header} {at step : ℕ} {before out : List ℤ} {o p : ℤ} {first last : History} {j : ℕ}
-    → Part sector n h at step before (record { old = o; older = p }) out last j → 28 ≤ j → o ≡ first.old → p ≡ first.older
-    → (out ≡ placed_of before at step (unit_of sector n first)) × (last ≡ after_of first (unit_of sector n first))
-unfolding nibbles_of samples_of placed_of after_of
-part_all {j = j} q l e f = let k : 28 - j ≡ 0 = omega arith in rw (← e, ← f) (sym (q.placed ∙ rw k), sym (q.after ∙ rw k))
+  pub part_all : {out : List ℤ} {last : History} {j : ℕ} → Part sector n h at step before first out last j → 28 ≤ j
+      → (out ≡ placed_of before at step (unit_of sector n first)) × (last ≡ after_of first (unit_of sector n first))
+  unfolding nibbles_of samples_of placed_of after_of
+  part_all {j = j} p l = let k : 28 - j ≡ 0 = omega arith in (sym (p.placed ∙ rw k), sym (p.after ∙ rw k))
 
 -- ---- a channel's samples, unit by unit
 
@@ -161,43 +168,125 @@ placed_stereo (x ∷ xs) (y ∷ ys) (a ∷ b ∷ out) e l =
     ∙ ap (λ (zs : List ℤ). x ∷ zs) (placed_past y (placed_of out 0 2 xs) 1 2 ys)
     ∙ ap (λ (zs : List ℤ). x ∷ y ∷ zs) (placed_stereo xs ys out (omega arith) (omega arith))
 
+-- ---- the copies of the headers
+
+-- a test of many numbers, from the first on
+all_front : (f : ℕ → Bool) (n : ℕ) → all_below (suc n) f ≡ (f 0 && all_below n (λ k. f (suc k)))
+unfolding all_below
+all_front f zero = by (f 0)
+  where
+    by : (b : Bool) → (true && b) ≡ (b && true)
+    by true = refl
+    by false = refl
+all_front f (suc n) = rw (all_front f n) (by (f 0) (all_below n (λ k. f (suc k))) (f (suc n)))
+  where
+    by : (a b c : Bool) → ((a && b) && c) ≡ (a && (b && c))
+    by true b c = refl
+    by false b c = refl
+
+all_alike : (f g : ℕ → Bool) (n : ℕ) → ((k : ℕ) → k < n → f k ≡ g k) → all_below n f ≡ all_below n g
+unfolding all_below
+all_alike f g zero e = refl
+all_alike f g (suc n) e = rw (all_alike f g n (λ k l. e k (omega arith)), e n (omega arith))
+
+-- `==` on n bytes from i on and n from j on
+same_bytes : (n : ℕ) (xs ys : List ℕ) → n ≤ length xs → n ≤ length ys → pointwise eqb (take n xs) (take n ys) ≡ all_below n (λ k. eqb (get_or xs k 0) (get_or ys k 0))
+unfolding all_below
+same_bytes zero xs ys l m = refl
+same_bytes (suc n) [] ys l m = absurd (omega arith)
+same_bytes (suc n) (x ∷ xs) [] l m = absurd (omega arith)
+same_bytes (suc n) (x ∷ xs) (y ∷ ys) l m =
+    rw (all_front (λ k. eqb (get_or (x ∷ xs) k 0) (get_or (y ∷ ys) k 0)) n, same_bytes n xs ys (omega arith) (omega arith))
+
+pub same_runs : (xs : List ℕ) (n i j : ℕ) → n + i ≤ length xs → n + j ≤ length xs
+    → pointwise eqb (take n (drop i xs)) (take n (drop j xs)) ≡ all_below n (λ k. eqb (get_or xs (i + k) 0) (get_or xs (j + k) 0))
+same_runs xs n i j l m =
+    let a = length-drop i xs in
+    let b = length-drop j xs in
+    same_bytes n (drop i xs) (drop j xs) (omega arith) (omega arith)
+    ∙ all_alike _ _ n (λ k p. ap₂ eqb (get_or-drop i xs k 0) (get_or-drop j xs k 0))
+
+-- what `==` says of the copies in one group
+pub group_by : (xs : List ℕ) {a b : Bool} → length xs ≡ 128 → a ≡ pointwise eqb (take 4 (drop 0 xs)) (take 4 (drop 4 xs)) → b ≡ pointwise eqb (take 4 (drop 12 xs)) (take 4 (drop 8 xs))
+    → (a && b) ≡ is_group_copied xs 0
+unfolding all_below
+group_by xs l e f =
+    rw (e, f, same_runs xs 4 0 4 (omega arith) (omega arith), same_runs xs 4 12 8 (omega arith) (omega arith))
+    (sym (all_and (λ k. eqb (get_or xs k 0) (get_or xs (4 + k) 0)) (λ k. eqb (get_or xs (12 + k) 0) (get_or xs (8 + k) 0)) 4))
+
+module _ (xs : List ℕ) where
+  byte_next : (g i : ℕ) → byte_of xs (suc g) i ≡ byte_of (drop 128 xs) g i
+  byte_next g i =
+      let q : suc g * 128 + i ≡ 128 + (g * 128 + i) = omega arith in
+      ap (λ (n : ℕ). get_or xs n 0) q ∙ sym (get_or-drop 128 xs (g * 128 + i) 0)
+
+  next_group : (g : ℕ) → is_group_copied xs (suc g) ≡ is_group_copied (drop 128 xs) g
+  next_group g = all_alike (is_copied xs (suc g)) (is_copied (drop 128 xs) g) 4 (λ i l. rw (byte_next g i, byte_next g (4 + i), byte_next g (12 + i), byte_next g (8 + i)))
+
+  first_group : is_group_copied (take 128 xs) 0 ≡ is_group_copied xs 0
+  first_group =
+      all_alike (is_copied (take 128 xs) 0) (is_copied xs 0) 4
+      (λ i l. rw (
+        get_or-take 128 xs (0 * 128 + i) 0 (omega arith),
+        get_or-take 128 xs (0 * 128 + (4 + i)) 0 (omega arith),
+        get_or-take 128 xs (0 * 128 + (12 + i)) 0 (omega arith),
+        get_or-take 128 xs (0 * 128 + (8 + i)) 0 (omega arith),
+      ))
+
+-- every group, as the code has them
+pub groups_copied : (n : ℕ) (xs : List ℕ) → list_all (λ group. is_group_copied group 0) (first_chunks 128 n xs) ≡ all_below n (is_group_copied xs)
+unfolding all_below
+groups_copied zero xs = refl
+groups_copied (suc n) xs =
+    ap₂ (λ (a b : Bool). a && b) (first_group xs) (groups_copied n (drop 128 xs) ∙ sym (all_alike (λ k. is_group_copied xs (suc k)) (is_group_copied (drop 128 xs)) n (λ k l. next_group xs k)))
+    ∙ sym (all_front (is_group_copied xs) n)
+
 -- ---- a sector
 
 module _ (sector : List ℕ) (out : List ℤ) where
-  sized_by : is_sized sector out ≡ true → (length sector ≡ 2304) × (length out ≡ 4032)
-  sized_by t =
-      let a = eqb (length sector) 2304 in
-      let b = eqb (length out) 4032 in
-      (eqb-true (length sector) 2304 (and_first a b t), eqb-true (length out) 4032 (and_rest a b t))
+  sized : length sector ≡ 2304 → length out ≡ 4032 → is_sized sector out ≡ true
+  sized e f = rw (eq-eqb (length sector) 2304 e) (eq-eqb (length out) 4032 f)
 
-  pub sized_sector : not (is_sized sector out) ≡ false → length sector ≡ 2304
-  sized_sector t = (sized_by (not-false (is_sized sector out) t)).0
+  unsized : (length sector ≡ 2304 → length out ≡ 4032 → ⊥) → is_sized sector out ≡ false
+  unsized f =
+      elim (ℕ_discrete (length sector) 2304) [
+        | yes e ↦ rw (eq-eqb (length sector) 2304 e) (ne_eqb (length out) 4032 (f e))
+        | no n ↦ rw (ne_eqb (length sector) 2304 n)
+      ]
 
-  pub number_sized : (eight : Bool) {number : ℕ} → number ≡ number_of sector eight out → number ≡ 0 → (length sector ≡ 2304) × (length out ≡ 4032)
+  pub number_14 : (eight : Bool) → (length sector ≡ 2304 → length out ≡ 4032 → ⊥) → 14 ≡ number_of sector eight out
   unfolding number_of
-  number_sized eight e z = sized_by (by (is_sized sector out) (cond eight 13 (cond (are_copied sector) 0 12)) (sym e ∙ z))
-    where
-      by : (b : Bool) (n : ℕ) → cond b n 14 ≡ 0 → b ≡ true
-      by true n e = refl
-      by false n e = absurd (omega arith)
+  number_14 eight f = rw (unsized f)
 
-  pub number_14 : (eight : Bool) → not (is_sized sector out) ≡ true → 14 ≡ number_of sector eight out
-  unfolding number_of
-  number_14 eight t = rw (not-true (is_sized sector out) t)
-
-  module _ (s : not (is_sized sector out) ≡ false) where
+  module _ (e : length sector ≡ 2304) (f : length out ≡ 4032) where
     pub number_13 : (eight : Bool) → eight ≡ true → 13 ≡ number_of sector eight out
     unfolding number_of
-    number_13 eight e = rw (not-false (is_sized sector out) s, e)
+    number_13 eight t = rw (sized e f, t)
 
-    module _ (eight : Bool) (e : eight ≡ false) where
-      pub number_12 : {c : Bool} → c ≡ are_copied sector → not c ≡ true → 12 ≡ number_of sector eight out
+    module _ (eight : Bool) (t : eight ≡ false) where
+      pub number_12 : {c : Bool} → c ≡ are_copied sector → c ≡ false → 12 ≡ number_of sector eight out
       unfolding number_of
-      number_12 {c} f t = rw (not-false (is_sized sector out) s, e, ← f, not-true c t)
+      number_12 {c} g u = rw (sized e f, t, ← g, u)
 
-      pub number_0 : {c : Bool} → c ≡ are_copied sector → not c ≡ false → 0 ≡ number_of sector eight out
+      pub number_0 : {c : Bool} → c ≡ are_copied sector → c ≡ true → 0 ≡ number_of sector eight out
       unfolding number_of
-      number_0 {c} f t = rw (not-false (is_sized sector out) s, e, ← f, not-false c t)
+      number_0 {c} g u = rw (sized e f, t, ← g, u)
+
+  -- a sector that is accepted has both lengths
+  pub number_sized : (eight : Bool) → 0 ≡ number_of sector eight out → (length sector ≡ 2304) × (length out ≡ 4032)
+  unfolding number_of
+  number_sized eight e =
+      elim (ℕ_discrete (length sector) 2304) [
+        | yes p ↦
+            elim (ℕ_discrete (length out) 4032) [
+              | yes q ↦ (p, q)
+              | no n ↦ absurd (none _ (unsized (λ x y. n y)) e)
+            ]
+        | no n ↦ absurd (none _ (unsized (λ x y. n x)) e)
+      ]
+    where
+      none : {b : Bool} (n : ℕ) → b ≡ false → 0 ≡ cond b n 14 → ⊥
+      none n f z = let k = rw f at z in omega arith
 
 module _ (sector : List ℕ) (hs : Histories) (out : List ℤ) (s : length out ≡ 4032) where
   pub stereo_accepted : {left right : History} {out₁ out₂ : List ℤ}
@@ -216,12 +305,14 @@ module _ (sector : List ℕ) (hs : Histories) (out : List ℤ) (s : length out �
   unfolding accepted_of
   mono_accepted m = rw (m.1, m.0, placed_mono (mono_of sector hs.mono) out (s ∙ sym (channel_length sector 0 1 hs.mono 144)))
 
-module _ (sector : List ℕ) (stereo eight : Bool) (hs : Histories) (out : List ℤ) {number : ℕ} (e : number ≡ number_of sector eight out) where
-  pub decoded_refused : (number ≡ 0 → ⊥) → record { number = number; histories = hs; out = out } ≡ decoded_of sector stereo eight hs out
+module _ (sector : List ℕ) (stereo eight : Bool) (hs : Histories) (out : List ℤ) where
+  pub decoded_refused : (r : Refusal) → refused_with r ≡ number_of sector eight out → answer_of (Err r) hs out ≡ decoded_of sector stereo eight hs out
   unfolding decoded_of
-  decoded_refused f = rw (← e, ne_eqb number 0 f)
+  decoded_refused HeaderCopies e = rw (← e)
+  decoded_refused EightBit e = rw (← e)
+  decoded_refused Lengths e = rw (← e)
 
-  pub decoded_accepted : {b : Bool} {after : Histories} {out₁ : List ℤ} → number ≡ 0 → stereo ≡ b → record { number = 0; histories = after; out = out₁ } ≡ accepted_of sector b hs
-      → record { number = number; histories = after; out = out₁ } ≡ decoded_of sector stereo eight hs out
+  pub decoded_accepted : {b : Bool} {after : Histories} {out₁ : List ℤ} → 0 ≡ number_of sector eight out → stereo ≡ b → record { number = 0; histories = after; out = out₁ } ≡ accepted_of sector b hs
+      → answer_of (Ok after) hs out₁ ≡ decoded_of sector stereo eight hs out
   unfolding decoded_of
-  decoded_accepted z t a = rw (← e, z, t) a
+  decoded_accepted e t a = rw (← e, t) a

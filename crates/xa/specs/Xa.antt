@@ -1,11 +1,13 @@
 -- XA speech: "Decode sound groups of 128 bytes, 18 to a sector's 2,304, 4-bit, mono or stereo" (document 02, M-104). Assumes nothing.
-use Rattle.std.specs.Prelude.{Bool, true, false, cond, ◌&&◌, List, [], ◌∷◌, ◌++◌, ℕ, zero, suc, ◌+◌, ◌*◌, ◌/◌, ◌%◌, eqb, length, get_or, set, ℤ, pos}
+use Rattle.std.specs.Prelude.{Bool, true, false, cond, ◌&&◌, List, [], ◌∷◌, ◌++◌, ℕ, zero, suc, ◌+◌, ◌*◌, ◌/◌, ◌%◌, eqb, length, get_or, set, ℤ, pos, Result, Ok, Err}
 use Rattle.fixed.specs.Bits.{field}
 use Rattle.fixed.specs.Tests.{all_below}
 use Rattle.adpcm.specs.declared.Header.{Header}
 use Rattle.adpcm.specs.declared.History.{History}
 use Rattle.adpcm.specs.Adpcm.{acts_as, samples_of, after_of}
 use Rattle.xa.specs.declared.Histories.{Histories}
+use Rattle.xa.specs.declared.Refusal.{Refusal}
+use Rattle.xa.specs.declared.Refusal.TheVariants.{HeaderCopies, EightBit, Lengths}
 
 -- ---- a sector
 
@@ -95,6 +97,21 @@ pub record Decoded : Type 0 where
   pub number : ℕ
   pub histories : Histories
   pub out : List ℤ
+
+-- the numbers of the refusals, and 0 for none
+abbrev pub refused_with : Refusal → ℕ
+refused_with HeaderCopies = 12
+refused_with EightBit = 13
+refused_with Lengths = 14
+
+abbrev pub number_in : {A : Type 0} → Result A Refusal → ℕ
+number_in (Ok x) = 0
+number_in (Err r) = refused_with r
+
+-- what a call leaves that was handed the histories hs: its number, the histories, which stay as they were if it is refused, and the output
+abbrev pub answer_of : Result Histories Refusal → Histories → List ℤ → Decoded
+answer_of (Ok after) hs out = record { number = 0; histories = after; out = out }
+answer_of (Err r) hs out = record { number = refused_with r; histories = hs; out = out }
 
 -- each history that it leaves is for the next sector: it "carries across groups and sectors"
 unfoldable pub accepted_of : List ℕ → (stereo : Bool) → Histories → Decoded

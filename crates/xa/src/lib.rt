@@ -1,64 +1,56 @@
 // XA speech: the samples of a sector of CD-ROM XA ADPCM.
 #![tactic(auto)]
 
-ghost use Rattle.std.specs.Prelude.{◌≡◌, true, false, ◌+◌, ◌*◌, ◌≤◌, ◌<◌, length};
+ghost use Rattle.std.specs.Prelude.{◌≡◌, ◌+◌, ◌*◌, ◌≤◌, ◌<◌, length};
 ghost use Rattle.adpcm.specs.Adpcm.{after_of};
-ghost use Rattle.xa.specs.Xa.{is_group_copied, are_copied, header_byte, header_of, nibble_of, unit_of, channel_of, placed_of, fresh_of, number_of, accepted_of, decoded_of};
+ghost use Rattle.xa.specs.Xa.{is_group_copied, are_copied, header_byte, header_of, nibble_of, unit_of, channel_of, placed_of, fresh_of, refused_with, number_in, number_of, answer_of, decoded_of};
 
-use adpcm::{Header, History};
+use adpcm::{Coding, Header, History};
 
 #[repr(C)]
-#[derive(Clone, Copy)]
+#[derive(Clone, Copy, Default)]
 pub struct Histories {
     pub left: History,
     pub right: History,
     pub mono: History,
 }
 
-// What a call answers. The histories are those that were handed in if it is refused.
-#[repr(C)]
+// Why a sector is refused.
 #[derive(Clone, Copy)]
-pub struct Decoded {
-    pub number: u8,
-    pub histories: Histories,
+pub enum Refusal {
+    HeaderCopies = 12,
+    EightBit = 13,
+    Lengths = 14,
+}
+
+impl Refusal {
+    pub fn number(self) -> u8
+        ensures { result ≡ refused_with self }
+    {
+        self as u8
+    }
 }
 
 // The histories before the first sector.
 pub fn fresh() -> Histories
     ensures { result ≡ fresh_of }
 {
-    Histories {
-        left: History { old: 0, older: 0 },
-        right: History { old: 0, older: 0 },
-        mono: History { old: 0, older: 0 },
-    }
+    Histories::default()
 }
 
 // ---- the copies of the headers
 
-fn is_group_copied(sector: &[u8], g: usize) -> bool
-    requires { (length sector.now ≡ 2304) × (g < 18) }
-    ensures { result ≡ is_group_copied sector.now g }
+fn is_group_copied(group: &[u8; 128]) -> bool
+    ensures { result ≡ is_group_copied group.now 0 }
 {
-    let at = g * 128;
-    let mut ok = true;
-    for i in 0..4usize {
-        ok = ok
-            & ((sector[at + i] == sector[at + (4 + i)])
-                & (sector[at + (12 + i)] == sector[at + (8 + i)]));
-    }
-    ok
+    (group[..4] == group[4..8]) & (group[12..16] == group[8..12])
 }
 
 fn are_copied(sector: &[u8]) -> bool
     requires { length sector.now ≡ 2304 }
     ensures { result ≡ are_copied sector.now }
 {
-    let mut ok = true;
-    for g in 0..18usize {
-        ok = ok & is_group_copied(sector, g);
-    }
-    ok
+    sector.as_chunks().0.iter().all(is_group_copied)
 }
 
 // ---- units and channels
@@ -87,29 +79,32 @@ fn nibble(sector: &[u8], n: usize, j: usize) -> u8
 {
     let byte = sector[n / 8 * 128 + (16 + 4 * j + n % 8 / 2)];
     if n % 2 == 0 {
-        return byte % 16;
+        byte % 16
+    } else {
+        byte / 16 % 16
     }
-    byte / 16 % 16
 }
 
 // Decodes unit n to every `step`-th place from `at` on.
-fn unit(sector: &[u8], n: usize, h: History, out: &mut [i16], at: usize, step: usize) -> History
+fn unit(
+    sector: &[u8],
+    n: usize,
+    before: History,
+    out: &mut [i16],
+    at: usize,
+    step: usize,
+) -> History
     requires { (length sector.now ≡ 2304) × (n < 144) × (step ≤ 2) × (at + 27 * step < length out.old) }
-    ensures { (out.new ≡ placed_of out.old at step (unit_of sector.now n h)) × (result ≡ after_of h (unit_of sector.now n h)) }
+    ensures { (out.new ≡ placed_of out.old at step (unit_of sector.now n before)) × (result ≡ after_of before (unit_of sector.now n before)) }
 {
-    let header = unit_header(sector, n);
-    let f0 = adpcm::k0(header.filter);
-    let f1 = adpcm::k1(header.filter);
-    let mut old = h.old;
-    let mut older = h.older;
+    let coding = Coding::of(unit_header(sector, n));
+    let mut h = before;
     for j in 0..28usize {
-        let t = nibble(sector, n, j);
-        let x = adpcm::sample(t, header, f0, f1, old, older);
+        let x = coding.sample(nibble(sector, n, j), h);
         out[at + j * step] = x;
-        older = old;
-        old = x;
+        h = h.then(x);
     }
-    History { old, older }
+    h
 }
 
 // Decodes the units `first`, `first + step`, .., `count` of them, to every `step`-th place from `first` on.
@@ -134,72 +129,60 @@ fn channel(
 
 // ---- a sector
 
-fn decode_stereo(sector: &[u8], histories: Histories, out: &mut [i16]) -> Histories
-    requires { (length sector.now ≡ 2304) × (length out.old ≡ 4032) }
-    ensures { record { number = 0; histories = result; out = out.new } ≡ accepted_of sector.now true histories }
+fn accept(sector: &[u8], eight_bit: bool, out: &[i16]) -> Result<(), Refusal>
+    ensures { number_in result ≡ number_of sector.now eight_bit out.now }
 {
-    let left = channel(sector, 0, 2, 72, histories.left, out);
-    let right = channel(sector, 1, 2, 72, histories.right, out);
-    let mono = histories.mono;
-    Histories { left, right, mono }
-}
-
-fn decode_mono(sector: &[u8], histories: Histories, out: &mut [i16]) -> Histories
-    requires { (length sector.now ≡ 2304) × (length out.old ≡ 4032) }
-    ensures { record { number = 0; histories = result; out = out.new } ≡ accepted_of sector.now false histories }
-{
-    let left = histories.left;
-    let right = histories.right;
-    let mono = channel(sector, 0, 1, 144, histories.mono, out);
-    Histories { left, right, mono }
-}
-
-fn number_of(sector: &[u8], eight_bit: bool, out: &[i16]) -> u8
-    ensures { result ≡ number_of sector.now eight_bit out.now }
-{
-    let sized = (sector.len() == 2304) & (out.len() == 4032);
-    if !sized {
-        return 14;
+    if sector.len() != 2304 || out.len() != 4032 {
+        return Err(Refusal::Lengths);
     }
     if eight_bit {
-        return 13;
+        return Err(Refusal::EightBit);
     }
     if !are_copied(sector) {
-        return 12;
+        return Err(Refusal::HeaderCopies);
     }
-    0
+    Ok(())
 }
 
-// The samples of a sector. The number is 14 if the sector or the buffer has another length, 13 for samples of 8 bits, and 12 if a header differs
-// from its copy.
+// The samples of a sector, and the histories after it. It is refused if the sector or the buffer has another length, for samples of 8 bits, and if a
+// header differs from its copy.
 pub fn decode(
     sector: &[u8],
     stereo: bool,
     eight_bit: bool,
     histories: Histories,
     out: &mut [i16],
-) -> Decoded
-    ensures { record { number = result.number; histories = result.histories; out = out.new } ≡ decoded_of sector.now stereo eight_bit histories out.old }
+) -> Result<Histories, Refusal>
+    ensures { answer_of result histories out.new ≡ decoded_of sector.now stereo eight_bit histories out.old }
 {
-    let number = number_of(sector, eight_bit, out);
-    if number != 0 {
-        return Decoded { number, histories };
-    }
+    accept(sector, eight_bit, out)?;
     if stereo {
-        let after = decode_stereo(sector, histories, out);
-        return Decoded {
-            number,
-            histories: after,
-        };
-    }
-    let after = decode_mono(sector, histories, out);
-    Decoded {
-        number,
-        histories: after,
+        let left = channel(sector, 0, 2, 72, histories.left, out);
+        let right = channel(sector, 1, 2, 72, histories.right, out);
+        Ok(Histories {
+            left,
+            right,
+            mono: histories.mono,
+        })
+    } else {
+        let mono = channel(sector, 0, 1, 144, histories.mono, out);
+        Ok(Histories {
+            left: histories.left,
+            right: histories.right,
+            mono,
+        })
     }
 }
 
 // ---- for hosts
+
+// What a call answers. The histories are those that were handed in if it is refused.
+#[repr(C)]
+#[derive(Clone, Copy)]
+pub struct Decoded {
+    pub number: u8,
+    pub histories: Histories,
+}
 
 #[unsafe(no_mangle)]
 pub extern "C" fn tenonwhisk_xa_fresh() -> Histories
@@ -208,6 +191,7 @@ pub extern "C" fn tenonwhisk_xa_fresh() -> Histories
     fresh()
 }
 
+// The number is that of the refusal, or 0.
 #[unsafe(no_mangle)]
 pub extern "C" fn tenonwhisk_xa_decode(
     sector: &[u8],
@@ -218,5 +202,14 @@ pub extern "C" fn tenonwhisk_xa_decode(
 ) -> Decoded
     ensures { record { number = result.number; histories = result.histories; out = out.new } ≡ decoded_of sector.now stereo eight_bit histories out.old }
 {
-    decode(sector, stereo, eight_bit, histories, out)
+    match decode(sector, stereo, eight_bit, histories, out) {
+        Ok(after) => Decoded {
+            number: 0,
+            histories: after,
+        },
+        Err(refusal) => Decoded {
+            number: refusal.number(),
+            histories,
+        },
+    }
 }

@@ -5,10 +5,10 @@
 use std::io::{ErrorKind, Read};
 use std::rt::Files;
 use std::{fs, io};
-use xa::Histories;
+use xa::{Histories, Refusal};
 
 // 's' for a stereo sector.
-const SECTORS: [u8; 12] = *b"smsmsmsmsmms";
+const SECTORS: &[u8; 12] = b"smsmsmsmsmms";
 
 const CASES: u32 = 22;
 
@@ -19,31 +19,20 @@ const KEPT: i16 = -0x5A5B;
 
 // ---- output
 
-fn print_number(rt: &impl Print, x: i16, end: u8) -> io::Result<()> {
-    let bits = fixed::to_bits(x) as u64;
-    if bits < 0x8000 {
-        rt.print(bits)?;
-    } else {
-        rt.write_all(b"-")?;
-        rt.print(0x10000 - bits)?;
-    }
-    rt.write_all(&[end])
-}
-
 fn print_samples(rt: &impl Print, samples: &[i16]) -> io::Result<()> {
-    for i in 0..samples.len() {
-        print_number(rt, samples[i], if i % 224 == 223 { b'\n' } else { b' ' })?;
+    for (i, x) in samples.iter().enumerate() {
+        print!(rt; "{x}{}", if i % 224 == 223 { '\n' } else { ' ' })?;
     }
     Ok(())
 }
 
 fn print_histories(rt: &impl Print, h: Histories) -> io::Result<()> {
-    print_number(rt, h.left.old, b' ')?;
-    print_number(rt, h.left.older, b' ')?;
-    print_number(rt, h.right.old, b' ')?;
-    print_number(rt, h.right.older, b' ')?;
-    print_number(rt, h.mono.old, b' ')?;
-    print_number(rt, h.mono.older, b'\n')
+    let Histories { left, right, mono } = h;
+    print!(rt;
+        "{} {} {} {} ",
+        left.old, left.older, right.old, right.older
+    )?;
+    println!(rt; "{} {}", mono.old, mono.older)
 }
 
 // ---- the sectors of an outside decoder
@@ -58,45 +47,39 @@ fn read_full(file: &mut impl Read, bytes: &mut [u8]) -> io::Result<()> {
 
 fn decode_sectors(rt: &impl Print, file: &mut impl Read) -> io::Result<()> {
     let mut histories = xa::fresh();
-    for i in 0..12usize {
+    for kind in SECTORS {
         let mut sector = [0u8; 2304];
         read_full(file, &mut sector)?;
-        let stereo = SECTORS[i] == b's';
-        if stereo {
-            rt.write_all(b"stereo\n")?;
-        } else {
-            rt.write_all(b"mono\n")?;
-        }
+        let stereo = *kind == b's';
+        println!(rt; "{}", if stereo { "stereo" } else { "mono" })?;
         let mut out = [0i16; 4032];
         let decoded = xa::decode(&sector, stereo, false, histories, &mut out);
         print_samples(rt, &out)?;
-        histories = decoded.histories;
+        if let Ok(after) = decoded {
+            histories = after;
+        }
     }
     Ok(())
 }
 
 // ---- the edges
 
-fn is_kept(out: &[i16]) -> bool {
-    for i in 0..out.len() {
-        if out[i] != KEPT {
-            return false;
-        }
-    }
-    true
-}
-
-fn print_answer(rt: &impl Print, number: u8, histories: Histories, out: &[i16]) -> io::Result<()> {
-    rt.print(number)?;
-    rt.write_all(b" ")?;
+fn print_refused(
+    rt: &impl Print,
+    refusal: Refusal,
+    histories: Histories,
+    out: &[i16],
+) -> io::Result<()> {
+    print!(rt; "{} ", refusal.number())?;
     print_histories(rt, histories)?;
-    if number == 0 {
-        return print_samples(rt, out);
-    }
-    if is_kept(out) {
-        return rt.write_all(b"kept\n");
-    }
-    rt.write_all(b"changed\n")
+    println!(rt;
+        "{}",
+        if out.iter().all(|x| *x == KEPT) {
+            "kept"
+        } else {
+            "changed"
+        }
+    )
 }
 
 fn answer_call(
@@ -107,25 +90,27 @@ fn answer_call(
     histories: Histories,
     out: &mut [i16],
 ) -> io::Result<Histories> {
-    let decoded = xa::decode(sector, stereo, eight_bit, histories, out);
-    let after = decoded.histories;
-    print_answer(rt, decoded.number, after, out)?;
-    Ok(after)
+    match xa::decode(sector, stereo, eight_bit, histories, out) {
+        Ok(after) => {
+            print!(rt; "0 ")?;
+            print_histories(rt, after)?;
+            print_samples(rt, out)?;
+            Ok(after)
+        }
+        Err(refusal) => {
+            print_refused(rt, refusal, histories, out)?;
+            Ok(histories)
+        }
+    }
 }
 
 // A case is its flags (bit 0 stereo, bit 1 8-bit), the lengths of sector and output, and room for a sector of 2,305 bytes.
 fn answer_case(
     rt: &impl Print,
-    case: &[u8],
-    out: &mut [i16],
+    case: &[u8; CASE_BYTES],
+    out: &mut [i16; 4033],
     histories: Histories,
 ) -> io::Result<Histories> {
-    if case.len() < CASE_BYTES {
-        return Ok(histories);
-    }
-    if out.len() < 4033 {
-        return Ok(histories);
-    }
     let stereo = case[0] % 2 == 1;
     let eight_bit = case[0] / 2 % 2 == 1;
     let bytes = little_endian::half_at(case, 1) as usize % 2306;

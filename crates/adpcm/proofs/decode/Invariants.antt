@@ -1,5 +1,5 @@
 use mathlib.Core.Path.{◌≡◌}
-use Prim.Native.Nat.{◌-◌, ◌*◌, ◌≤◌}
+use Prim.Native.Nat.{◌*◌}
 use lib.ListN.{length}
 use Rattle.adpcm.specs.Adpcm.{block_of}
 use Rattle.adpcm.proofs.Laws.{Part}
@@ -7,7 +7,4 @@ use Rattle.adpcm.proofs.decode.Given as goal
 
 abbrev pub invariant-loop-i : goal.invariant-loop-i
 invariant-loop-i l =
-    (l.i ≤ 14) × (length l.out ≡ 28) × Part l.h l.bytes (block_of l.bytes l.old l.older) l.out l.a l.b (l.i * 2)
-
-abbrev pub decreases-loop-i : goal.decreases-loop-i
-decreases-loop-i l = 14 - l.i
+    (length l.out ≡ 28) × Part l.coding.header l.fn.bytes (block_of l.fn.bytes l.fn.old l.fn.older) l.out l.before (l.i * 2)

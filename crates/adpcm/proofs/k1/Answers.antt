@@ -1,8 +1,10 @@
+use mathlib.Core.Path.{refl}
+use lib.IntN.{ℤ}
 use borrow.Author.Rules.{rules}
-use mir.Syntax.{w32}
-use Rattle.fixed.proofs.Table.{entry}
-use Rattle.adpcm.specs.Adpcm.{k1s, k1_of}
+use Rattle.adpcm.specs.Adpcm.{k1_of}
+use Rattle.adpcm.specs.declared.TheConstants.{FACTORS}
+use Rattle.adpcm.proofs.Laws.{pair_entry}
 use Rattle.adpcm.proofs.k1.Goals as goal
 
 pub returns : goal.returns
-returns c = entry k1_of 60 0 k1s 5 tt w32 c.args.filter (search rules) tt
+returns c = pair_entry k1_of 60 0 (λ (p : ℤ × ℤ). p.1) FACTORS 5 tt refl c.args.filter (search rules) tt

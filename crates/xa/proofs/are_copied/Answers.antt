@@ -1,12 +1,21 @@
+use mathlib.Core.Path.{◌∙◌, ap}
+use mathlib.Core.Bool.{Bool}
+use mathlib.Core.List.{List}
+use Prim.Native.Nat.{ℕ}
 use borrow.Author.Rules.{rules}
-use Rattle.fixed.proofs.Bools.{all_none, all_more, all_tested}
+use Rattle.std.specs.List.{list_all}
+use Rattle.std.proofs.Common.{tests}
+use Rattle.std.proofs.lemmas.Iterator.{YieldsList-from_slice}
+use Rattle.std.proofs.lemmas.Iterator.Search.{all_from_yields_List}
+use Rattle.xa.specs.Xa.{is_group_copied}
+use Rattle.xa.proofs.Laws.{groups_copied}
 use Rattle.xa.proofs.are_copied.Goals as goal
 
-pub loop-g-init : goal.loop-g-init
-loop-g-init c = (search rules, all_none _)
-
-pub loop-g-preserved : goal.loop-g-preserved
-loop-g-preserved c = (search rules, all_more _ _ c.loop-g.invariant.1 c.is_group_copied-ok.ensures)
+abbrev copied : List ℕ → Bool
+copied group = is_group_copied group 0
 
 pub returns : goal.returns
-returns c = let v = c.loop-g.invariant in all_tested _ _ _ v.1 v.0 c.loop-g-test.false
+returns c =
+    all_from_yields_List copied _ _ c.all.result c.all.ensures.ran (YieldsList-from_slice _ c.iter.ensures.rest) (λ x b q k. search (rules, tests))
+    ∙ ap (list_all copied) c.as_chunks.ensures.front
+    ∙ rw c.requires (groups_copied 18 c.args.sector.now)

@@ -1,4 +1,4 @@
-use mathlib.Core.Path.{◌≡◌, refl}
+use mathlib.Core.Path.{◌≡◌}
 use Prim.Native.Nat.{ℕ, ◌+◌, ◌*◌, ◌≤◌, ◌<◌}
 use native.Mathlib.Omega.{arith}
 use borrow.Author.Rules.{rules}
@@ -10,7 +10,7 @@ within : (n count step : ℕ) → count * step ≡ 144 → n < count → (n + 1)
 within n count step e h = rw (← e) (step_below (n + 1) count step (omega arith))
 
 pub loop-n-init : goal.loop-n-init
-loop-n-init c = (omega arith, refl, channel_none)
+loop-n-init c = channel_none
 
 pub overflow_mul-skip : goal.overflow_mul-skip
 overflow_mul-skip c = record { fits = omega (arith, within _ _ _ c.requires.3 c.loop-n-test.true) }
@@ -28,7 +28,7 @@ pub unit-h-requires : goal.unit-h-requires
 unit-h-requires c = (search rules, omega (arith, within _ _ _ c.requires.3 c.loop-n-test.true), search rules, omega (arith, within _ _ _ c.requires.3 c.loop-n-test.true))
 
 pub loop-n-preserved : goal.loop-n-preserved
-loop-n-preserved c = (omega arith, search rules, channel_more c.loop-n.invariant.2 c.unit-h.ensures)
+loop-n-preserved c = channel_more c.loop-n.invariant c.unit-h.ensures
 
 pub returns : goal.returns
-returns c = channel_all c.loop-n.invariant.2 c.loop-n.invariant.0 c.loop-n-test.false
+returns c = channel_all c.loop-n.invariant (omega arith) c.loop-n-test.false

@@ -4,5 +4,5 @@ use Rattle.xa.proofs.nibble.Goals as goal
 pub returns-then-n-eq0 : goal.returns-then-n-eq0
 returns-then-n-eq0 c = search nibble_even
 
-pub returns : goal.returns
-returns c = search nibble_odd
+pub returns-else-n-eq0 : goal.returns-else-n-eq0
+returns-else-n-eq0 c = search nibble_odd
