@@ -1,5 +1,5 @@
 -- Laws of the encoder check's definitions. Assumes nothing.
-use mathlib.Core.Path.{◌≡◌, refl, sym, ap, ◌∙◌}
+use mathlib.Core.Path.{◌≡◌, refl, sym, ap, ap₂, ◌∙◌}
 use mathlib.Core.Bool.{Bool, true, false, cond, not, ◌&&◌, ◌||◌, beq}
 use mathlib.Core.List.{List}
 use Prim.Native.Nat.{ℕ, ◌+◌, ◌-◌, ◌*◌, ◌%◌, ◌≤◌, ◌<◌}
@@ -12,6 +12,7 @@ use lib.ListN.{length, drop, get_or, length-drop}
 use lib.Seq.{length-take-le, get_or-take, get_or-drop, ext_get_or}
 use lib.IntN.{ℤ, pos, negsuc, nat_abs, ◌-ℤ◌}
 use lib.Signed.{lt_z}
+use Rattle.std.specs.Prelude.{Option, Some, None, Result, Ok, Err, is_some}
 use Rattle.fixed.specs.Bits.{bit, field}
 use Rattle.fixed.specs.Range.{up, dn, In}
 use Rattle.fixed.specs.Tests.{all_below, first_from, first_below}
@@ -21,9 +22,8 @@ use Rattle.adpcm.specs.declared.History.{History}
 use Rattle.adpcm.specs.Adpcm.{block_of}
 use Rattle.adpcm.proofs.Laws.{after_last}
 use Rattle.encoder_check.specs.declared.Fault.{Fault}
-use Rattle.encoder_check.specs.declared.Verdict.{Verdict}
-use Rattle.encoder_check.specs.declared.Verdict.TheVariants.{Yes, No, Refused}
-use Rattle.encoder_check.specs.Check.{blocks_of, groups_of, bytes_of, history_of, decoded_at, are_as_many, is_within, is_near, are_near, is_flag_right, is_filter_known, is_yes, pairs_of, is_right, first_fault, broken_at, unpaired_at, fault_of, is_sized, verdict_of, answer_of}
+use Rattle.encoder_check.specs.declared.NotWhole.{NotWhole}
+use Rattle.encoder_check.specs.Check.{blocks_of, groups_of, bytes_of, history_of, decoded_at, are_as_many, is_within, is_near, are_near, is_flag_right, is_filter_known, is_yes, pairs_of, is_right, first_fault, found, broken_at, unpaired_at, fault_of, is_sized, verdict_of, answer_of}
 
 -- ---- a block
 
@@ -77,21 +77,35 @@ samples_by encoded block n h c x u v =
     x ∙ rw (q, u, v)
 
 -- what the code finds in block n
-pub judged : (originals : List ℤ) (encoded : List ℕ) (e n : ℕ) {samples : List ℤ} {sample : ℕ} {flag known : Bool}
-    → samples ≡ decoded_at encoded n → sample ≡ first_below 28 (is_near e samples originals (n * 28))
+pub judged : (originals : List ℤ) (encoded : List ℕ) (e n : ℕ) {samples : List ℤ} {sample : Option ℕ} {flag known : Bool}
+    → samples ≡ decoded_at encoded n → sample ≡ found 28 (first_below 28 (is_near e samples originals (n * 28)))
     → flag ≡ is_flag_right encoded n → known ≡ ltb (field 4 3 (get_or encoded (n * 16) 0)) 5
     → record { block = n; unpaired = false; sample = sample; end_flag = not flag; filter = not known } ≡ broken_at originals encoded e n
 judged originals encoded e n s t f k =
     let q : n * 16 + 0 ≡ n * 16 = omega arith in
     rw (t, s, f, k, q)
 
+-- i or none is what the search found, which is x
+pub found_at : {i x : ℕ} → i < 28 → i ≡ x → Some i ≡ found 28 x
+found_at {i} l e = rw (← e, lt-ltb i 28 l)
+
+pub found_none : {x : ℕ} → 28 ≡ x → None ≡ found 28 x
+found_none e = rw (← e)
+
+found_some : (i : ℕ) → is_some (found 28 i) ≡ ltb i 28
+found_some i = by (ltb i 28)
+  where
+    by : (b : Bool) → is_some (cond b (Some i) None) ≡ b
+    by true = refl
+    by false = refl
+
 module _ (originals : List ℤ) (encoded : List ℕ) (e : ℕ) where
   abbrev right : ℕ → Bool
   right n = is_right originals encoded e n
 
-  broken_is : (n : ℕ) {f : Fault} {r : Bool} → f ≡ broken_at originals encoded e n → r ≡ (ltb f.sample 28 || (f.end_flag || f.filter)) → r ≡ not (right n)
+  broken_is : (n : ℕ) {f : Fault} {r : Bool} → f ≡ broken_at originals encoded e n → r ≡ (is_some f.sample || (f.end_flag || f.filter)) → r ≡ not (right n)
   broken_is n g t =
-      t ∙ rw (g, all_first (is_near e (decoded_at encoded n) originals (n * 28)) 28) (by (are_near originals encoded e n) (is_flag_right encoded n) (is_filter_known encoded n))
+      t ∙ rw (g, found_some (first_below 28 (is_near e (decoded_at encoded n) originals (n * 28))), all_first (is_near e (decoded_at encoded n) originals (n * 28)) 28) (by (are_near originals encoded e n) (is_flag_right encoded n) (is_filter_known encoded n))
     where
       by : (a b c : Bool) → (not a || (not b || not c)) ≡ not (a && (b && c))
       by true true true = refl
@@ -105,16 +119,20 @@ module _ (originals : List ℤ) (encoded : List ℕ) (e : ℕ) where
     pub kept : h ≡ history_of encoded n
     pub first : first_below (pairs_of originals encoded) right ≡ first_from n (pairs_of originals encoded - n) right
 
-  pub searched_none : Searched (record { old = pos 0; older = pos 0 }) 0
+  abbrev history : ℤ → ℤ → History
+  history old older = record { old = old; older = older }
+
+  -- h is the default history, as the code has it
+  pub searched_none : {h : History} → (h.old ≡ pos 0) × (h.older ≡ pos 0) → Searched h 0
   unfolding history_of
-  searched_none = record { kept = refl; first = first_begin right (pairs_of originals encoded) }
+  searched_none d = record { kept = ap₂ history d.0 d.1; first = first_begin right (pairs_of originals encoded) }
 
   module _ {h : History} {n : ℕ} (s : Searched h n) where
     pub searched_samples : {xs : List ℤ} → xs ≡ block_of (bytes_of encoded n) h.old h.older → xs ≡ decoded_at encoded n
     searched_samples x = x ∙ rw s.kept
 
     -- f is what the code finds in block n, and r whether that is a fault
-    module _ {f : Fault} {r : Bool} (l : n < pairs_of originals encoded) (g : f ≡ broken_at originals encoded e n) (t : r ≡ (ltb f.sample 28 || (f.end_flag || f.filter))) where
+    module _ {f : Fault} {r : Bool} (l : n < pairs_of originals encoded) (g : f ≡ broken_at originals encoded e n) (t : r ≡ (is_some f.sample || (f.end_flag || f.filter))) where
       pub searched_more : {xs : List ℤ} {h' : History} → r ≡ false → xs ≡ block_of (bytes_of encoded n) h.old h.older → length xs ≡ 28
           → h' ≡ record { old = get_or xs 27 (pos 0); older = get_or xs 26 (pos 0) } → Searched h' (n + 1)
       unfolding history_of
@@ -174,18 +192,18 @@ module _ (originals : List ℤ) (encoded : List ℕ) (e : ℕ) where
         by false t = refl
 
     module _ (s : not (is_sized originals encoded) ≡ false) where
-      pub verdict_yes : (are_as_many originals encoded && (f.unpaired && not (eqb (blocks_of encoded) 0))) ≡ true → Yes ≡ verdict_of originals encoded e
+      pub verdict_yes : (are_as_many originals encoded && (f.unpaired && not (eqb (blocks_of encoded) 0))) ≡ true → Ok None ≡ verdict_of originals encoded e
       unfolding verdict_of
       verdict_yes t = rw (not-false (is_sized originals encoded) s, ← yes_is, t)
 
-      pub verdict_no : (are_as_many originals encoded && (f.unpaired && not (eqb (blocks_of encoded) 0))) ≡ false → No f ≡ verdict_of originals encoded e
+      pub verdict_no : (are_as_many originals encoded && (f.unpaired && not (eqb (blocks_of encoded) 0))) ≡ false → Ok (Some f) ≡ verdict_of originals encoded e
       unfolding verdict_of
       verdict_no t = rw (not-false (is_sized originals encoded) s, ← yes_is, t, g)
 
-  pub verdict_refused : not (is_sized originals encoded) ≡ true → Refused ≡ verdict_of originals encoded e
+  pub verdict_refused : not (is_sized originals encoded) ≡ true → Err (record {}) ≡ verdict_of originals encoded e
   unfolding verdict_of
   verdict_refused t = rw (not-true (is_sized originals encoded) t)
 
 -- v is what the code's check gave, x the case that it took
-pub answer_as : {v x w : Verdict} → v ≡ w → v ≡ x → answer_of x ≡ answer_of w
+pub answer_as : {v x w : Result (Option Fault) NotWhole} → v ≡ w → v ≡ x → answer_of x ≡ answer_of w
 answer_as p t = ap answer_of (sym t ∙ p)

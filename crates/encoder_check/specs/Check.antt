@@ -1,12 +1,11 @@
 -- A check of encoders: "Given the original samples, the encoded blocks and a largest error E, say yes exactly when .." (document 02, M-113). Assumes nothing.
-use Rattle.std.specs.Prelude.{Bool, true, false, cond, not, ◌&&◌, List, ℕ, zero, suc, ◌+◌, ◌*◌, ◌/◌, ◌%◌, min, eqb, leb, ltb, length, take, drop, get_or, ℤ, pos, nat_abs, ◌-ℤ◌}
+use Rattle.std.specs.Prelude.{Bool, true, false, cond, not, ◌&&◌, List, ℕ, zero, suc, ◌+◌, ◌*◌, ◌/◌, ◌%◌, min, eqb, leb, ltb, length, take, drop, get_or, ℤ, pos, nat_abs, ◌-ℤ◌, Option, Some, None, Result, Ok, Err}
 use Rattle.fixed.specs.Bits.{bit, field}
 use Rattle.fixed.specs.Tests.{all_below, first_below}
 use Rattle.adpcm.specs.declared.History.{History}
 use Rattle.adpcm.specs.Adpcm.{block_of, after_of}
 use Rattle.encoder_check.specs.declared.Fault.{Fault}
-use Rattle.encoder_check.specs.declared.Verdict.{Verdict}
-use Rattle.encoder_check.specs.declared.Verdict.TheVariants.{Yes, No, Refused}
+use Rattle.encoder_check.specs.declared.NotWhole.{NotWhole}
 use Rattle.encoder_check.specs.declared.Answer.{Answer}
 
 -- ---- the blocks and their samples
@@ -86,19 +85,23 @@ first_fault originals encoded e = first_below (pairs_of originals encoded) (is_r
 
 -- ---- beyond the request: which rules that block breaks
 
--- the sample is the first that is too far from its original, 28 if none is
+-- a number that a search below n found, or none
+abbrev pub found : (n i : ℕ) → Option ℕ
+found n i = cond (ltb i n) (Some i) None
+
+-- the sample is the first that is too far from its original, if one is
 abbrev pub broken_at : List ℤ → List ℕ → (e n : ℕ) → Fault
 broken_at originals encoded e n =
     record {
       block = n;
       unpaired = false;
-      sample = first_below 28 (is_near e (decoded_at encoded n) originals (n * 28));
+      sample = found 28 (first_below 28 (is_near e (decoded_at encoded n) originals (n * 28)));
       end_flag = not (is_flag_right encoded n);
       filter = not (is_filter_known encoded n);
     }
 
 abbrev pub unpaired_at : ℕ → Fault
-unpaired_at n = record { block = n; unpaired = true; sample = 28; end_flag = false; filter = false }
+unpaired_at n = record { block = n; unpaired = true; sample = None; end_flag = false; filter = false }
 
 unfoldable pub fault_of : List ℤ → List ℕ → ℕ → Fault
 fault_of originals encoded e =
@@ -110,12 +113,19 @@ fault_of originals encoded e =
 abbrev pub is_sized : List ℤ → List ℕ → Bool
 is_sized originals encoded = eqb (length originals % 28) 0 && eqb (length encoded % 16) 0
 
-unfoldable pub verdict_of : List ℤ → List ℕ → ℕ → Verdict
+-- yes is the fault None
+unfoldable pub verdict_of : List ℤ → List ℕ → ℕ → Result (Option Fault) NotWhole
 verdict_of originals encoded e =
-    cond (is_sized originals encoded) (cond (is_yes originals encoded e) Yes (No (fault_of originals encoded e))) Refused
+    cond (is_sized originals encoded) (Ok (cond (is_yes originals encoded e) None (Some (fault_of originals encoded e)))) (Err (record {}))
+
+-- the number of a fault's sample: 28 if it has none
+abbrev pub sample_number : Option ℕ → ℕ
+sample_number None = 28
+sample_number (Some j) = j
 
 -- number and values of each verdict
-abbrev pub answer_of : Verdict → Answer
-answer_of Yes = record { number = 0; yes = true; unpaired = false; end_flag = false; filter = false; block = 0; sample = 0 }
-answer_of (No f) = record { number = 0; yes = false; unpaired = f.unpaired; end_flag = f.end_flag; filter = f.filter; block = f.block; sample = f.sample }
-answer_of Refused = record { number = 23; yes = false; unpaired = false; end_flag = false; filter = false; block = 0; sample = 0 }
+abbrev pub answer_of : Result (Option Fault) NotWhole → Answer
+answer_of (Ok None) = record { number = 0; yes = true; unpaired = false; end_flag = false; filter = false; block = 0; sample = 0 }
+answer_of (Ok (Some f)) =
+    record { number = 0; yes = false; unpaired = f.unpaired; end_flag = f.end_flag; filter = f.filter; block = f.block; sample = sample_number f.sample }
+answer_of (Err e) = record { number = 23; yes = false; unpaired = false; end_flag = false; filter = false; block = 0; sample = 0 }

@@ -1,30 +1,27 @@
 // A check of encoders: the blocks that an ADPCM encoder made, against the samples that it made them of.
 #![tactic(auto)]
 
-ghost use Rattle.std.specs.Prelude.{◌≡◌, cond, not, ◌||◌, ◌+◌, ◌≤◌, ◌<◌, ltb, length, get_or, pos};
+ghost use Rattle.std.specs.Prelude.{◌≡◌, cond, not, ◌||◌, ◌+◌, ◌≤◌, ◌<◌, ltb, length, get_or, pos, is_some};
 ghost use Rattle.fixed.specs.Bits.{bit, field};
 ghost use Rattle.fixed.specs.Tests.{first_below};
 ghost use Rattle.adpcm.specs.Adpcm.{block_of};
-ghost use Rattle.encoder_check.specs.Check.{blocks_of, groups_of, bytes_of, decoded_at, is_within, is_near, pairs_of, broken_at, fault_of, verdict_of, answer_of};
+ghost use Rattle.encoder_check.specs.Check.{blocks_of, groups_of, bytes_of, decoded_at, is_within, is_near, found, pairs_of, broken_at, fault_of, verdict_of, answer_of};
 
 use adpcm::History;
 
-// The first block at fault, and what it breaks. The sample is the first that is too far from its original, 28 if none is.
+// The first block at fault, and what it breaks. The sample is the first that is too far from its original.
 #[derive(Clone, Copy)]
 pub struct Fault {
     pub block: usize,
     pub unpaired: bool,
-    pub sample: usize,
+    pub sample: Option<usize>,
     pub end_flag: bool,
     pub filter: bool,
 }
 
+// Why a check is refused: the lengths do not make whole blocks.
 #[derive(Clone, Copy)]
-pub enum Verdict {
-    Yes,
-    No(Fault),
-    Refused,
-}
+pub struct NotWhole;
 
 // ---- a block
 
@@ -36,17 +33,18 @@ fn is_within(largest: u16, x: i16, y: i16) -> bool
     !(d < -e) & !(e < d)
 }
 
-// The first of a block's samples that is too far from its original, 28 if none is. The originals begin at `at`.
-fn first_far(originals: &[i16], at: usize, samples: [i16; 28], largest: u16) -> usize
+// The first of a block's samples that is too far from its original. The originals begin at `at`. A loop, since the closure of `position` is not told
+// that the numbers in a slice fit their type.
+fn first_far(originals: &[i16], at: usize, samples: [i16; 28], largest: u16) -> Option<usize>
     requires { at + 28 ≤ length originals.now }
-    ensures { result ≡ first_below 28 (is_near largest samples originals.now at) }
+    ensures { result ≡ found 28 (first_below 28 (is_near largest samples originals.now at)) }
 {
-    for j in 0..28usize {
-        if !is_within(largest, samples[j], originals[at + j]) {
-            return j;
+    for (j, sample) in samples.iter().enumerate() {
+        if !is_within(largest, *sample, originals[at + j]) {
+            return Some(j);
         }
     }
-    28
+    None
 }
 
 // Whether the flags of a block, the last one or not, have the end flag as they should.
@@ -82,9 +80,9 @@ fn judge(originals: &[i16], encoded: &[u8], largest: u16, n: usize, samples: [i1
 }
 
 fn is_broken(f: Fault) -> bool
-    ensures { result ≡ (ltb f.sample 28 || (f.end_flag || f.filter)) }
+    ensures { result ≡ (is_some f.sample || (f.end_flag || f.filter)) }
 {
-    (f.sample < 28) | (f.end_flag | f.filter)
+    f.sample.is_some() | (f.end_flag | f.filter)
 }
 
 // ---- a sound
@@ -92,9 +90,7 @@ fn is_broken(f: Fault) -> bool
 fn pairs_of(originals: &[i16], encoded: &[u8]) -> usize
     ensures { result ≡ pairs_of originals.now encoded.now }
 {
-    let blocks = encoded.len() / 16;
-    let groups = originals.len() / 28;
-    if blocks < groups { blocks } else { groups }
+    (encoded.len() / 16).min(originals.len() / 28)
 }
 
 // The samples of block n after the history h.
@@ -120,7 +116,7 @@ fn first_fault(originals: &[i16], encoded: &[u8], largest: u16) -> Fault
     ensures { result ≡ fault_of originals.now encoded.now largest }
 {
     let pairs = pairs_of(originals, encoded);
-    let mut h = History { old: 0, older: 0 };
+    let mut h = History::default();
     for n in 0..pairs {
         let samples = samples_at(encoded, n, h);
         let fault = judge(originals, encoded, largest, n, samples);
@@ -132,34 +128,35 @@ fn first_fault(originals: &[i16], encoded: &[u8], largest: u16) -> Fault
     Fault {
         block: pairs,
         unpaired: true,
-        sample: 28,
+        sample: None,
         end_flag: false,
         filter: false,
     }
 }
 
-// Whether each sample lies within `largest` of its original and the blocks keep the other rules. Refused if the lengths do not make whole blocks.
-pub fn check(originals: &[i16], encoded: &[u8], largest: u16) -> Verdict
+// The first fault, if a sample does not lie within `largest` of its original or a block breaks another rule.
+pub fn check(originals: &[i16], encoded: &[u8], largest: u16) -> Result<Option<Fault>, NotWhole>
     ensures { result ≡ verdict_of originals.now encoded.now largest }
 {
     let sized = (originals.len() % 28 == 0) & (encoded.len() % 16 == 0);
     if !sized {
-        return Verdict::Refused;
+        return Err(NotWhole);
     }
     let fault = first_fault(originals, encoded, largest);
     let blocks = encoded.len() / 16;
     let groups = originals.len() / 28;
     if (blocks == groups) & (fault.unpaired & (blocks != 0)) {
-        return Verdict::Yes;
+        Ok(None)
+    } else {
+        Ok(Some(fault))
     }
-    Verdict::No(fault)
 }
 
 // ---- for hosts
 
-// A verdict as numbers and bools: zeros where it says nothing.
+// A verdict as numbers and bools: zeros where it says nothing. The sample is 28 if a fault has none.
 #[repr(C)]
-#[derive(Clone, Copy)]
+#[derive(Clone, Copy, Default)]
 pub struct Answer {
     pub number: u8,
     pub yes: bool,
@@ -178,34 +175,22 @@ pub extern "C" fn tenonwhisk_encoder_check(
 ) -> Answer
     ensures { result ≡ answer_of (verdict_of originals.now encoded.now largest) }
 {
-    let verdict = check(originals, encoded, largest);
-    match verdict {
-        Verdict::Yes => Answer {
-            number: 0,
+    match check(originals, encoded, largest) {
+        Ok(None) => Answer {
             yes: true,
-            unpaired: false,
-            end_flag: false,
-            filter: false,
-            block: 0,
-            sample: 0,
+            ..Answer::default()
         },
-        Verdict::No(fault) => Answer {
-            number: 0,
-            yes: false,
+        Ok(Some(fault)) => Answer {
             unpaired: fault.unpaired,
             end_flag: fault.end_flag,
             filter: fault.filter,
             block: fault.block,
-            sample: fault.sample,
+            sample: fault.sample.unwrap_or(28),
+            ..Answer::default()
         },
-        Verdict::Refused => Answer {
+        Err(NotWhole) => Answer {
             number: 23,
-            yes: false,
-            unpaired: false,
-            end_flag: false,
-            filter: false,
-            block: 0,
-            sample: 0,
+            ..Answer::default()
         },
     }
 }

@@ -7,5 +7,5 @@ returns-then-not-sized c = search verdict_refused
 pub returns-then-blocks-groups : goal.returns-then-blocks-groups
 returns-then-blocks-groups c = search verdict_yes
 
-pub returns : goal.returns
-returns c = search verdict_no
+pub returns-else-blocks-groups : goal.returns-else-blocks-groups
+returns-else-blocks-groups c = search verdict_no
