@@ -3,7 +3,7 @@
 
 ghost use Rattle.std.specs.Prelude.{◌≡◌, cond, false, ◌-◌, ◌^◌, ◌<◌, pos};
 ghost use Rattle.fixed.specs.Range.{In};
-ghost use Rattle.envelope.specs.Adsr.{rise, fall, rate_of, cycles_of, step_of, clamped};
+ghost use Rattle.envelope.specs.Adsr.{rise, fall, rate_of, cycles_of, step_of, clamped, active};
 
 // The first variant is the one of a fresh voice.
 #[derive(Clone, Copy)]
@@ -32,6 +32,14 @@ pub struct Rate {
     pub falling: bool,
 }
 
+// Of a phase without steps.
+const NO_STEPS: Rate = Rate {
+    shift: 0,
+    value: 0,
+    exponential: false,
+    falling: false,
+};
+
 // The value of step n, for a rise and for a fall.
 fn value(n: u16, falling: bool) -> i32
     requires { n < 4 }
@@ -57,47 +65,39 @@ fn with_steps(shift: u16, n: u16, exponential: bool, falling: bool) -> Rate
     }
 }
 
-// The rate of a phase without.
-fn no_steps() -> Rate
-    ensures { result ≡ record { shift = 0; value = pos 0; exponential = false; falling = false } }
-{
-    Rate {
-        shift: 0,
-        value: 0,
-        exponential: false,
-        falling: false,
+impl Phase {
+    // Whether the phase has steps.
+    pub fn is_active(self) -> bool
+        ensures { result ≡ active self }
+    {
+        matches!(
+            self,
+            Phase::Attack | Phase::Decay | Phase::Sustain | Phase::Release
+        )
     }
-}
 
-// The rate of a phase, out of the two ADSR halfwords.
-pub fn rate_of(phase: Phase, low: u16, high: u16) -> Rate
-    ensures { result ≡ rate_of phase low high }
-{
-    match phase {
-        Phase::Idle => no_steps(),
-        Phase::Attack => with_steps(
-            low / 0x400 % 32,
-            low / 0x100 % 4,
-            low / 0x8000 % 2 == 1,
-            false,
-        ),
-        Phase::Decay => with_steps(low / 0x10 % 16, 0, true, true),
-        Phase::Sustain => with_steps(
-            high / 0x100 % 32,
-            high / 0x40 % 4,
-            high / 0x8000 % 2 == 1,
-            high / 0x4000 % 2 == 1,
-        ),
-        Phase::Release => with_steps(high % 32, 0, high / 0x20 % 2 == 1, true),
-        Phase::Off => no_steps(),
+    // Its rate, out of the two ADSR halfwords.
+    pub fn rate(self, low: u16, high: u16) -> Rate
+        ensures { result ≡ rate_of self low high }
+    {
+        match self {
+            Phase::Idle | Phase::Off => NO_STEPS,
+            Phase::Attack => with_steps(
+                low / 0x400 % 32,
+                low / 0x100 % 4,
+                low / 0x8000 % 2 == 1,
+                false,
+            ),
+            Phase::Decay => with_steps(low / 0x10 % 16, 0, true, true),
+            Phase::Sustain => with_steps(
+                high / 0x100 % 32,
+                high / 0x40 % 4,
+                high / 0x8000 % 2 == 1,
+                high / 0x4000 % 2 == 1,
+            ),
+            Phase::Release => with_steps(high % 32, 0, high / 0x20 % 2 == 1, true),
+        }
     }
-}
-
-// a - b, and 0 where b is above a.
-fn above(a: u32, b: u32) -> u32
-    ensures { result ≡ a - b }
-{
-    if b < a { a - b } else { 0 }
 }
 
 // 2 to the power of a - b, and 1 where b is above a.
@@ -105,32 +105,34 @@ fn power(a: u32, b: u32) -> u32
     requires { a < 32 }
     ensures { result ≡ 2 ^ (a - b) }
 {
-    1 << above(a, b)
+    1 << a.saturating_sub(b)
 }
 
-// The ticks from one step to the next.
-pub fn cycles(r: Rate, level: u16) -> u32
-    requires { r.shift < 32 }
-    ensures { result ≡ cycles_of r level }
-{
-    let n = power(r.shift, 11);
-    if r.exponential & (!r.falling & (0x6000 < level)) {
-        n * 4
-    } else {
-        n
+impl Rate {
+    // The ticks from one step to the next.
+    pub fn cycles(self, level: u16) -> u32
+        requires { self.shift < 32 }
+        ensures { result ≡ cycles_of self level }
+    {
+        let n = power(self.shift, 11);
+        if self.exponential & (!self.falling & (0x6000 < level)) {
+            n * 4
+        } else {
+            n
+        }
     }
-}
 
-// How far a step moves the level. The shift rounds down, as the paper asks; a division would not.
-pub fn step(r: Rate, level: u16) -> i32
-    requires { In 8 7 r.value }
-    ensures { result ≡ step_of r level }
-{
-    let full = r.value * (power(11, r.shift) as i32);
-    if r.exponential & r.falling {
-        (full * (level as i32)) >> 15
-    } else {
-        full
+    // How far a step moves the level. The shift rounds down, as the paper asks; a division would not.
+    pub fn step(self, level: u16) -> i32
+        requires { In 8 7 self.value }
+        ensures { result ≡ step_of self level }
+    {
+        let full = self.value * (power(11, self.shift) as i32);
+        if self.exponential & self.falling {
+            (full * (level as i32)) >> 15
+        } else {
+            full
+        }
     }
 }
 
@@ -138,11 +140,5 @@ pub fn step(r: Rate, level: u16) -> i32
 pub fn clamp(x: i32) -> u16
     ensures { result ≡ clamped x }
 {
-    if x < 0 {
-        return 0;
-    }
-    if 0x7FFF < x {
-        return 0x7FFF;
-    }
-    x as u16
+    x.clamp(0, 0x7FFF) as u16
 }

@@ -3,4 +3,4 @@ use Rattle.fixed.proofs.Bits.{one_shl}
 use Rattle.envelope.proofs.power.Goals as goal
 
 pub returns : goal.returns
-returns c = rw c.above.ensures (one_shl 32 _ (omega arith))
+returns c = rw c.saturating_sub.ensures (one_shl 32 _ (omega arith))

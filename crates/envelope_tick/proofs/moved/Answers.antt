@@ -7,7 +7,7 @@ use Rattle.envelope.proofs.Steps.{step_in}
 use Rattle.envelope.proofs.Ticks.{moved_as}
 use Rattle.envelope_tick.proofs.moved.Goals as goal
 
-value : (c : goal.After-rate_of-rate) → In 8 7 c.rate_of-rate.result.value
+value : (c : goal.After-rate-rate) → In 8 7 c.rate-rate.result.value
 value c = search rate_value
 
 -- the level and the step

@@ -4,8 +4,8 @@ use Rattle.envelope_tick.proofs.tick.Goals as goal
 pub returns-then-not-is_active : goal.returns-then-not-is_active
 returns-then-not-is_active c = search ticked_inactive
 
-pub returns-then-wait-gt1 : goal.returns-then-wait-gt1
-returns-then-wait-gt1 c = search ticked_waits
+pub returns-then-e-gt1 : goal.returns-then-e-gt1
+returns-then-e-gt1 c = search ticked_waits
 
-pub returns-else-wait-gt1 : goal.returns-else-wait-gt1
-returns-else-wait-gt1 c = search ticked_moves
+pub returns-else-e-gt1 : goal.returns-else-e-gt1
+returns-else-e-gt1 c = search ticked_moves
