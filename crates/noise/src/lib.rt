@@ -17,7 +17,7 @@ const TAPS: u16 = 0x9C00;
 fn parity(level: u16) -> u16
     ensures { result ≡ parity_of level }
 {
-    ((u16::count_ones(level & TAPS) + 1) % 2) as u16
+    (((level & TAPS).count_ones() + 1) % 2) as u16
 }
 
 // The shift register after one clock.
@@ -41,24 +41,15 @@ pub fn tick(n: Noise, spucnt: u16) -> Noise
     let step = 4 + (spucnt / 0x100 % 4) as u32;
     if step <= n.timer {
         return Noise {
-            level: n.level,
             timer: n.timer - step,
+            ..n
         };
     }
     let level = shift(n.level);
     let below = step - n.timer;
     let r = reload(spucnt);
-    if below <= r {
-        Noise {
-            level,
-            timer: r - below,
-        }
-    } else {
-        Noise {
-            level,
-            timer: r + r - below,
-        }
-    }
+    let timer = if below <= r { r - below } else { r + r - below };
+    Noise { level, timer }
 }
 
 // What a write to SPUCNT does, of its old and its new value.
@@ -69,7 +60,7 @@ pub fn write(n: Noise, old: u16, new: u16) -> Noise
         return n;
     }
     Noise {
-        level: n.level,
         timer: reload(new),
+        ..n
     }
 }

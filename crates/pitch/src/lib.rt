@@ -2,7 +2,7 @@
 #![tactic(auto)]
 
 ghost use Rattle.std.specs.Prelude.{◌≡◌};
-ghost use Rattle.pitch.specs.Pitch.{modulated_of, limited, step_of, moved_of};
+ghost use Rattle.pitch.specs.Pitch.{modulated_of, step_of, moved_of};
 
 // The counter after a step, and the samples that it moved.
 #[derive(Clone, Copy)]
@@ -20,20 +20,16 @@ fn modulate(pitch: u16, amplitude: i16) -> u16
     fixed::low16(step)
 }
 
-fn limit(step: u16) -> u16
-    ensures { result ≡ limited step }
-{
-    if 0x3FFF < step { 0x4000 } else { step }
-}
-
 // The step of one tick.
 pub fn step(pitch: u16, modulated: bool, amplitude: i16) -> u16
     ensures { result ≡ step_of pitch modulated amplitude }
 {
-    if modulated {
-        return limit(modulate(pitch, amplitude));
-    }
-    limit(pitch)
+    let step = if modulated {
+        modulate(pitch, amplitude)
+    } else {
+        pitch
+    };
+    step.min(0x4000)
 }
 
 pub fn advance(counter: u16, step: u16) -> Moved

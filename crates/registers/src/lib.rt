@@ -49,37 +49,35 @@ pub fn has(flags: u32, n: usize) -> bool
 
 // Which offsets there are, which can only be read, and which values cannot be written.
 
+#[tactic(auto, using(std::proofs::Common::tests), unfolding(crate::specs::Offsets::listed))]
 pub fn listed(offset: u32) -> bool
     ensures { result ≡ listed_at offset }
 {
-    (offset % 2 == 0)
-        & ((offset <= 0x19E)
-            | (((0x1A2 <= offset) & (offset <= 0x1AE))
-                | (((0x1B0 <= offset) & (offset <= 0x1BA))
-                    | ((0x1C0 <= offset) & (offset <= 0x1FE)))))
+    offset % 2 == 0
+        && matches!(
+            offset,
+            0..=0x19E | 0x1A2..=0x1AE | 0x1B0..=0x1BA | 0x1C0..=0x1FE
+        )
 }
 
+#[tactic(auto, using(std::proofs::Common::tests), unfolding(crate::specs::Offsets::read_only))]
 pub fn read_only(offset: u32) -> bool
     ensures { result ≡ read_only offset }
 {
-    (offset == 0x19C)
-        | ((offset == 0x19E) | ((offset == 0x1AE) | ((offset == 0x1B8) | (offset == 0x1BA))))
+    matches!(offset, 0x19C | 0x19E | 0x1AE | 0x1B8 | 0x1BA)
 }
 
 // The bits of a register that nobody has documented, as a mask.
+#[tactic(auto, using(std::proofs::Common::tests), unfolding(crate::specs::Offsets::undocumented_bits))]
 fn undocumented_bits(offset: u32) -> u16
     ensures { result ≡ undocumented_bits offset }
 {
-    if (offset < 0x180) & (offset % 16 == 0xA) {
-        return 0x2000;
+    match offset {
+        0..=0x17F if offset % 16 == 0xA => 0x2000,
+        0x188..=0x19E if offset % 4 == 2 => 0xFF00,
+        0x1AC => 0xFFF1,
+        _ => 0,
     }
-    if ((0x188 <= offset) & (offset <= 0x19E)) & (offset % 4 == 2) {
-        return 0xFF00;
-    }
-    if offset == 0x1AC {
-        return 0xFFF1;
-    }
-    0
 }
 
 pub fn undocumented(offset: u32, value: u16) -> bool
@@ -88,12 +86,20 @@ pub fn undocumented(offset: u32, value: u16) -> bool
     value & undocumented_bits(offset) != 0
 }
 
+#[tactic(auto, using(std::proofs::Common::tests), unfolding(crate::specs::Offsets::not_written))]
 pub fn not_written(offset: u32, value: u16) -> bool
     ensures { result ≡ not_written offset value }
 {
-    let of_voice = offset < 0x180;
-    let volume = (of_voice & (offset % 16 < 4)) | ((offset == 0x180) | (offset == 0x182));
-    (volume & (value / 0x8000 % 2 == 1))
-        | ((of_voice & (offset % 16 == 0xC))
-            | ((offset == 0x1A8) | ((offset == 0x1AC) & !(value / 2 % 8 == 2))))
+    let sweep = value / 0x8000 % 2 == 1;
+    match offset {
+        0..=0x17F => match offset % 16 {
+            0..=3 => sweep,
+            0xC => true,
+            _ => false,
+        },
+        0x180 | 0x182 => sweep,
+        0x1A8 => true,
+        0x1AC => value / 2 % 8 != 2,
+        _ => false,
+    }
 }
