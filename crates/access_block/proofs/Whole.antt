@@ -1,6 +1,6 @@
 -- A block that lies at a multiple of 16 and is marked whole: its eight reads at once. Assumes nothing.
 use mathlib.Core.Path.{◌≡◌, refl, sym, ap, ap₂, ◌∙◌}
-use mathlib.Core.Bool.{Bool, true, false, ◌||◌, ◌&&◌, and-false, or-true, or-false}
+use mathlib.Core.Bool.{Bool, true, false, not, ◌||◌, ◌&&◌, and-false, or-true, or-false}
 use mathlib.Core.List.{List, [], ◌∷◌, ◌++◌, append_assoc}
 use Prim.Native.Nat.{ℕ, zero, suc, ◌+◌, ◌-◌, ◌*◌, ◌/◌, ◌%◌, ◌≤◌, ◌<◌}
 use native.Mathlib.Decide.{ℕ_discrete}
@@ -115,5 +115,7 @@ module _ (who : Reader) (size : ℕ) (ram marks : List ℕ) (a : ByteAddress) (b
       (does_bind _ (reads n (omega arith)) (does_bind _ (read_at n _ (omega arith)) (does_give _ (sym (ap₂ (λ (u v : ℕ). take (n * 2) bs ++ u ∷ v ∷ []) (low _ _ x) (high _ _ x))))))
 
   -- x is the watch as the call has it
-  pub whole_does : {x : Watch} → x ≡ seen w (eqb (w.halfword / 8) (a.0 / 16)) → Does (bytes_from who size a 8) (mem_of ram marks w) bs (mem_of ram marks x)
-  whole_does e = rw (e, ← inside_eight w.halfword a.0 even, ← take_all 16 bs (omega arith)) (reads 8 (omega arith))
+  pub whole_does : {x : Watch}
+      → x ≡ record { armed = w.armed; halfword = w.halfword; latch = w.latch || (w.armed && eqb (w.halfword / 8) (a.0 / 16)); doubt = w.doubt || not true }
+      → Does (bytes_from who size a 8) (mem_of ram marks w) bs (mem_of ram marks x)
+  whole_does e = rw (e, or-false w.doubt, ← inside_eight w.halfword a.0 even, ← take_all 16 bs (omega arith)) (reads 8 (omega arith))

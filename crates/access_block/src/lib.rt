@@ -1,35 +1,23 @@
 // A block loaded from sound RAM.
 #![tactic(auto)]
 
-ghost use Rattle.std.specs.Prelude.{◌≡◌, ◌||◌, ◌&&◌, ◌/◌, ◌<◌, eqb};
+ghost use Rattle.std.specs.Prelude.{◌<◌};
 ghost use Rattle.soundram.specs.Address.{Lent};
 ghost use Rattle.soundram.specs.Program.{Does, mem_of, bytes_from};
 
-use soundram::{ByteAddress, Reader, Watch};
-
-// What a block load gives: the block's bytes.
-#[derive(Clone, Copy)]
-pub struct Block {
-    pub bytes: [u8; 16],
-    pub watch: Watch,
-}
-
-// What the reads of a block leave of the watch, if it lies at a multiple of 16 and is marked whole.
-fn noticed_whole(w: Watch, a: ByteAddress) -> Watch
-    ensures { result ≡ record { armed = w.armed; halfword = w.halfword; latch = w.latch || (w.armed && eqb (w.halfword / 8) (a.0 / 16)); doubt = w.doubt } }
-{
-    Watch {
-        armed: w.armed,
-        halfword: w.halfword,
-        latch: w.latch | (w.armed & (w.halfword / 8 == a.0 / 16)),
-        doubt: w.doubt,
-    }
-}
+use soundram::{ByteAddress, Reader, Seen, Watch};
 
 // The 16 bytes of the block at an address, a halfword at a time.
-fn load_each(ram: &[u8], marks: &[u8], who: Reader, size: u32, a: ByteAddress, w: Watch) -> Block
+fn load_each(
+    ram: &[u8],
+    marks: &[u8],
+    who: Reader,
+    size: u32,
+    a: ByteAddress,
+    w: Watch,
+) -> Seen<[u8; 16]>
     requires { Lent size ram.now marks.now × (a.0 < size) }
-    ensures { Does (bytes_from who size a 8) (mem_of ram.now marks.now w) result.bytes (mem_of ram.now marks.now result.watch) }
+    ensures { Does (bytes_from who size a 8) (mem_of ram.now marks.now w) result.value (mem_of ram.now marks.now result.watch) }
 {
     let mut bytes = [0u8; 16];
     let mut watch = w;
@@ -45,23 +33,33 @@ fn load_each(ram: &[u8], marks: &[u8], who: Reader, size: u32, a: ByteAddress, w
         );
         bytes[k] = (got.value % 256) as u8;
         bytes[k + 1] = (got.value / 256) as u8;
-        let next = got.watch;
-        watch = next;
+        watch = got.watch;
     }
-    Block { bytes, watch }
+    Seen {
+        value: bytes,
+        watch,
+    }
 }
 
 // The 16 bytes of the block at an address, all of them counted reads. Most blocks lie at a multiple of 16 and are marked whole: their eight
 // marks are one byte, and the reads are one.
-pub fn load(ram: &[u8], marks: &[u8], who: Reader, size: u32, a: ByteAddress, w: Watch) -> Block
+pub fn load(
+    ram: &[u8],
+    marks: &[u8],
+    who: Reader,
+    size: u32,
+    a: ByteAddress,
+    w: Watch,
+) -> Seen<[u8; 16]>
     requires { Lent size ram.now marks.now × (a.0 < size) }
-    ensures { Does (bytes_from who size a 8) (mem_of ram.now marks.now w) result.bytes (mem_of ram.now marks.now result.watch) }
+    ensures { Does (bytes_from who size a 8) (mem_of ram.now marks.now w) result.value (mem_of ram.now marks.now result.watch) }
 {
     let i = (a.0 / 16) as usize;
     if (a.0 % 16 == 0) & (marks[i] == 0xFF) {
-        let bytes = adpcm::block_at(ram, a.0 as usize);
-        let watch = noticed_whole(w, a);
-        return Block { bytes, watch };
+        return Seen {
+            value: adpcm::block_at(ram, a.0 as usize),
+            watch: w.noticed(w.halfword / 8 == a.0 / 16, true),
+        };
     }
     load_each(ram, marks, who, size, a, w)
 }

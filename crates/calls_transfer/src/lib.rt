@@ -80,10 +80,10 @@ fn refused(refusal: Refusal) -> Moved
 
 // Puts the address and what was watched in place once count halfwords have moved; w was watched before.
 fn accepted(state: &mut [u16], count: u32, w: Watch, m: Ended) -> Moved
-    requires { Formed state.old × (m.address.0 % 2 ≡ 0) }
-    ensures { (result ≡ record { number = 0; irq = m.watch.latch && not w.latch; doubt = m.watch.doubt && not w.doubt; count = count }) × Holds state.new (watched_of (with_transfer (state_of state.old) m.address) m.watch) × Halfwords state.new }
+    requires { Formed state.old × (m.value.0 % 2 ≡ 0) }
+    ensures { (result ≡ record { number = 0; irq = m.watch.latch && not w.latch; doubt = m.watch.doubt && not w.doubt; count = count }) × Holds state.new (watched_of (with_transfer (state_of state.old) m.value) m.watch) × Halfwords state.new }
 {
-    layout::put_transfer(state, m.address);
+    layout::put_transfer(state, m.value);
     layout::put_watch(state, m.watch);
     Moved {
         number: 0,

@@ -131,15 +131,35 @@ module _ (area : Area) (t : Turning) where
   unfolding store
   store_not d x m w = does_no _ w (does_done tt m)
 
--- ---- two offsets
+-- ---- the offsets of two reflections, and of two all-passes
 
-abbrev pub Offsets : List ℕ → Type 0
-Offsets xs = (k : ℕ) → get_or xs k 0 < 512
+abbrev pub Pair : Type 0
+Pair = ℕ × ℕ
 
-pub two_offsets : {a b : ℕ} → a < 512 → b < 512 → Offsets (a ∷ b ∷ [])
-two_offsets p q zero = p
-two_offsets p q (suc zero) = q
-two_offsets p q (suc (suc k)) = omega arith
+abbrev pub pair_at : List Pair → ℕ → Pair
+pair_at xs k = get_or xs k (0, 0)
+
+abbrev pub PairIn : Pair → Type 0
+PairIn p = (p.0 < 512) × (p.1 < 512)
+
+pub two_pairs : {a b : Pair} → PairIn a → PairIn b → (k : ℕ) → PairIn (pair_at (a ∷ b ∷ []) k)
+two_pairs p q zero = p
+two_pairs p q (suc zero) = q
+two_pairs p q (suc (suc k)) = (omega arith, omega arith)
+
+abbrev pub Triple : Type 0
+Triple = ℕ × ℕ × ℕ
+
+abbrev pub triple_at : List Triple → ℕ → Triple
+triple_at xs k = get_or xs k (0, 0, 0)
+
+abbrev pub TripleIn : Triple → Type 0
+TripleIn p = (p.0 < 512) × (p.1 < 512) × (p.2 < 512)
+
+pub two_triples : {a b : Triple} → TripleIn a → TripleIn b → (k : ℕ) → TripleIn (triple_at (a ∷ b ∷ []) k)
+two_triples p q zero = p
+two_triples p q (suc zero) = q
+two_triples p q (suc (suc k)) = (omega arith, omega arith, omega arith)
 
 -- ---- the stages: a, b, c and d are what was read
 
@@ -168,23 +188,23 @@ module _ (regs : List ℕ) (area : Area) (t : Turning) where
   all_pass_does v m d out {o} em ed f ex eo ea ey s g er eb ez es =
       does_bind _ (rw (em, ed) at f) (does_bind _ (rw (em, ey, ex, eo, ea) at s) (does_bind _ (rw (em, ed) at g) (does_give o (rw (es, er, ez, ex, eo, ea, eb)))))
 
-  -- both reflections as one after the other of a list: m and d have their registers, e enters
-  abbrev pub reflection_at : ℤ → List ℕ → List ℕ → ℕ → Unit {0} → Prog (Unit {0})
-  reflection_at e m d k _ = reflection regs area t e (get_or m k 0) (get_or d k 0)
+  -- both reflections as one after the other of a list: a pair has the registers of one, m and d; e enters
+  abbrev pub reflection_at : ℤ → List Pair → ℕ → Unit {0} → Prog (Unit {0})
+  reflection_at e xs k _ = reflection regs area t e (pair_at xs k).0 (pair_at xs k).1
 
   -- s and o are the sides
   pub reflections_does : (input : ℤ) {i e : ℤ} {s o : ℕ} {k n : Mem} → s ≡ side_of t.right → o ≡ side_of (not t.right) → i ≡ input
-      → e ≡ product_of i (volume_at regs (0x1FC + s)) → Does (repeat (reflection_at e ((0x1D4 + s) ∷ (0x1E4 + s) ∷ []) ((0x1E0 + s) ∷ (0x1F0 + o) ∷ [])) 2 tt) k tt n
+      → e ≡ product_of i (volume_at regs (0x1FC + s)) → Does (repeat (reflection_at e ((0x1D4 + s, 0x1E0 + s) ∷ (0x1E4 + s, 0x1F0 + o) ∷ [])) 2 tt) k tt n
       → Does (reflections_of regs area t input) k tt n
   unfolding reflections_of repeat bind
   reflections_does input es eo ei ee f = rw (ee, ei, es, eo) at f
 
-  -- both all-passes in the same way: v, m and d have their registers
-  abbrev pub pass_at : List ℕ → List ℕ → List ℕ → ℕ → ℤ → Prog ℤ
-  pass_at v m d k out = all_pass regs area t (get_or v k 0) (get_or m k 0) (get_or d k 0) out
+  -- both all-passes in the same way: a triple has the registers of one, v, m and d
+  abbrev pub pass_at : List Triple → ℕ → ℤ → Prog ℤ
+  pass_at xs k out = all_pass regs area t (triple_at xs k).0 (triple_at xs k).1 (triple_at xs k).2 out
 
   pub passes_does : (out : ℤ) {a : ℤ} {s : ℕ} {k n : Mem} → s ≡ side_of t.right
-      → Does (repeat (pass_at (0x1D0 ∷ 0x1D2 ∷ []) ((0x1F4 + s) ∷ (0x1F8 + s) ∷ []) (0x1C0 ∷ 0x1C2 ∷ [])) 2 out) k a n → Does (all_passes regs area t out) k a n
+      → Does (repeat (pass_at ((0x1D0, 0x1F4 + s, 0x1C0) ∷ (0x1D2, 0x1F8 + s, 0x1C2) ∷ [])) 2 out) k a n → Does (all_passes regs area t out) k a n
   unfolding all_passes repeat bind
   passes_does out es f = rw es at f
 

@@ -6,7 +6,7 @@ ghost use Rattle.soundram.specs.Address.{Lent};
 ghost use Rattle.soundram.specs.Program.{Does, mem_of};
 ghost use Rattle.reverb.specs.Reverb.{address_at, AreaIn, side_of, who_of, fetch as fetching, store as storing};
 
-use soundram::{ByteAddress, Reader, Watch};
+use soundram::{ByteAddress, Reader, Seen, Watch};
 
 // The reverb's part of sound RAM, from its base to the end, and the place in it that moves.
 #[derive(Clone, Copy)]
@@ -24,11 +24,12 @@ pub struct Turning {
     pub writes: bool,
 }
 
-// A halfword read, or a turn's output.
+// What a turn reads and writes: an area that lies in sound RAM with its place, in the way of the turn.
 #[derive(Clone, Copy)]
-pub struct Sample {
-    pub value: i16,
-    pub watch: Watch,
+pub struct DelayLine {
+    pub area: Area,
+    pub turning: Turning,
+    pub ghost inside: { AreaIn area },
 }
 
 // A remainder that mostly needs no division.
@@ -36,10 +37,7 @@ fn remainder(n: u32, span: u32) -> u32
     requires { 0 < span }
     ensures { (result ≡ n % span) × (result < span) }
 {
-    if n < span {
-        return n;
-    }
-    n % span
+    if n < span { n } else { n % span }
 }
 
 // Where the displacement lies that is `back` bytes less than `bytes`.
@@ -50,71 +48,65 @@ fn address(a: Area, bytes: u32, back: u32) -> ByteAddress
     let span = a.size - a.base;
     let k = a.place - a.base + bytes;
     if back <= k {
-        return ByteAddress(a.base + remainder(k - back, span));
+        ByteAddress(a.base + remainder(k - back, span))
+    } else {
+        ByteAddress(a.base + (span - 1 - remainder(back - k - 1, span)))
     }
-    ByteAddress(a.base + (span - 1 - remainder(back - k - 1, span)))
 }
 
 // How far the side's register lies from the left one of a pair.
 pub fn side(right: bool) -> usize
     ensures { (result ≡ side_of right) × (result ≤ 2) }
 {
-    if right {
-        return 2;
-    }
-    0
+    if right { 2 } else { 0 }
 }
 
 fn who(right: bool) -> Reader
     ensures { result ≡ who_of right }
 {
     if right {
-        return Reader::ReverbRight;
+        Reader::ReverbRight
+    } else {
+        Reader::ReverbLeft
     }
-    Reader::ReverbLeft
 }
 
-// The halfword where the displacement leads, less `back` bytes.
-pub fn fetch(
-    ram: &[u8],
-    marks: &[u8],
-    area: Area,
-    t: Turning,
-    bytes: u32,
-    back: u32,
-    w: Watch,
-) -> Sample
-    requires { Lent area.size ram.now marks.now × AreaIn area × (bytes < 0x80000) × (back < 0x80000) }
-    ensures { Does (fetching area t (pos bytes -ℤ pos back)) (mem_of ram.now marks.now w) result.value (mem_of ram.now marks.now result.watch) }
-{
-    let got = access::read(
-        ram,
-        marks,
-        who(t.right),
-        t.counted,
-        address(area, bytes, back),
-        w,
-    );
-    let value = fixed::to_signed(got.value);
-    let watch = got.watch;
-    Sample { value, watch }
-}
-
-// A halfword stored there, if the turn writes.
-pub fn store(
-    ram: &mut [u8],
-    marks: &mut [u8],
-    area: Area,
-    t: Turning,
-    bytes: u32,
-    x: i16,
-    w: Watch,
-) -> Watch
-    requires { Lent area.size ram.old marks.old × AreaIn area × (bytes < 0x80000) }
-    ensures { Does (storing area t (pos bytes) x) (mem_of ram.old marks.old w) tt (mem_of ram.new marks.new result) }
-{
-    if t.writes {
-        return access::write(ram, marks, address(area, bytes, 0), fixed::to_bits(x), w);
+impl DelayLine {
+    // The halfword where the displacement leads, less `back` bytes.
+    pub fn fetch(self, ram: &[u8], marks: &[u8], bytes: u32, back: u32, w: Watch) -> Seen<i16>
+        requires { Lent self.area.size ram.now marks.now × (bytes < 0x80000) × (back < 0x80000) }
+        ensures { Does (fetching self.area self.turning (pos bytes -ℤ pos back)) (mem_of ram.now marks.now w) result.value (mem_of ram.now marks.now result.watch) }
+    {
+        let t = self.turning;
+        let got = access::read(
+            ram,
+            marks,
+            who(t.right),
+            t.counted,
+            address(self.area, bytes, back),
+            w,
+        );
+        Seen {
+            value: fixed::to_signed(got.value),
+            watch: got.watch,
+        }
     }
-    w
+
+    // A halfword stored there, if the turn writes.
+    pub fn store(self, ram: &mut [u8], marks: &mut [u8], bytes: u32, x: i16, w: Watch) -> Watch
+        requires { Lent self.area.size ram.old marks.old × (bytes < 0x80000) }
+        ensures { Does (storing self.area self.turning (pos bytes) x) (mem_of ram.old marks.old w) tt (mem_of ram.new marks.new result) }
+    {
+        if self.turning.writes {
+            access::write(
+                ram,
+                marks,
+                address(self.area, bytes, 0),
+                fixed::to_bits(x),
+                w,
+            )
+        } else {
+            w
+        }
+    }
 }

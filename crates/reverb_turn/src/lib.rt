@@ -6,17 +6,10 @@ ghost use Rattle.fixed.specs.Arithmetic.{saturated, product_of};
 ghost use Rattle.fixed.specs.Range.{In};
 ghost use Rattle.soundram.specs.Address.{Lent};
 ghost use Rattle.soundram.specs.Program.{Does, mem_of};
-ghost use Rattle.reverb.specs.Reverb.{AreaIn, side_of, fetch as fetching, volume_at, bytes_at, reflected_of, combed_of, reflection as reflecting, combs as combing, all_pass, reflections_of, all_passes, turn_of};
+ghost use Rattle.reverb.specs.Reverb.{side_of, fetch as fetching, volume_at, bytes_at, reflected_of, combed_of, reflection as reflecting, combs as combing, all_pass, reflections_of, all_passes, turn_of};
 
-use reverb::{Area, Sample, Turning};
-use soundram::Watch;
-
-// A sum on its way through the turn.
-#[derive(Clone, Copy)]
-struct Sum {
-    value: i32,
-    watch: Watch,
-}
+use reverb::DelayLine;
+use soundram::{Seen, Watch};
 
 // The displacement that a register holds.
 fn bytes(regs: &[u16; 256], offset: usize) -> u32
@@ -67,21 +60,20 @@ fn reflection(
     regs: &[u16; 256],
     ram: &mut [u8],
     marks: &mut [u8],
-    area: Area,
-    t: Turning,
+    line: DelayLine,
     input: i32,
     m: usize,
     d: usize,
     w: Watch,
 ) -> Watch
-    requires { Lent area.size ram.old marks.old × AreaIn area × In 0x8000 0x8000 input × (m < 512) × (d < 512) }
-    ensures { Does (reflecting regs.now area t input m d) (mem_of ram.old marks.old w) tt (mem_of ram.new marks.new result) }
+    requires { Lent line.area.size ram.old marks.old × In 0x8000 0x8000 input × (m < 512) × (d < 512) }
+    ensures { Does (reflecting regs.now line.area line.turning input m d) (mem_of ram.old marks.old w) tt (mem_of ram.new marks.new result) }
 {
     let to = bytes(regs, m);
-    let a = reverb::fetch(ram, marks, area, t, bytes(regs, d), 0, w);
-    let b = reverb::fetch(ram, marks, area, t, to, 2, a.watch);
+    let a = line.fetch(ram, marks, bytes(regs, d), 0, w);
+    let b = line.fetch(ram, marks, to, 2, a.watch);
     let x = reflected(regs, input, a.value, b.value, b.value);
-    reverb::store(ram, marks, area, t, to, x, b.watch)
+    line.store(ram, marks, to, x, b.watch)
 }
 
 fn combed(regs: &[u16; 256], a: i16, b: i16, c: i16, d: i16) -> i32
@@ -98,36 +90,30 @@ fn comb(
     regs: &[u16; 256],
     ram: &[u8],
     marks: &[u8],
-    area: Area,
-    t: Turning,
+    line: DelayLine,
     offset: usize,
     w: Watch,
-) -> Sample
-    requires { Lent area.size ram.now marks.now × AreaIn area × (offset < 510) }
-    ensures { Does (fetching area t (pos (bytes_at regs.now (offset + side_of t.right)))) (mem_of ram.now marks.now w) result.value (mem_of ram.now marks.now result.watch) }
+) -> Seen<i16>
+    requires { Lent line.area.size ram.now marks.now × (offset < 510) }
+    ensures { Does (fetching line.area line.turning (pos (bytes_at regs.now (offset + side_of line.turning.right)))) (mem_of ram.now marks.now w) result.value (mem_of ram.now marks.now result.watch) }
 {
-    reverb::fetch(
-        ram,
-        marks,
-        area,
-        t,
-        bytes(regs, offset + reverb::side(t.right)),
-        0,
-        w,
-    )
+    let own = offset + reverb::side(line.turning.right);
+    line.fetch(ram, marks, bytes(regs, own), 0, w)
 }
 
-fn combs(regs: &[u16; 256], ram: &[u8], marks: &[u8], area: Area, t: Turning, w: Watch) -> Sum
-    requires { Lent area.size ram.now marks.now × AreaIn area }
-    ensures { Does (combing regs.now area t) (mem_of ram.now marks.now w) result.value (mem_of ram.now marks.now result.watch) × In 0x20000 0x20000 result.value }
+fn combs(regs: &[u16; 256], ram: &[u8], marks: &[u8], line: DelayLine, w: Watch) -> Seen<i32>
+    requires { Lent line.area.size ram.now marks.now }
+    ensures { Does (combing regs.now line.area line.turning) (mem_of ram.now marks.now w) result.value (mem_of ram.now marks.now result.watch) × In 0x20000 0x20000 result.value }
 {
-    let a = comb(regs, ram, marks, area, t, 0x1D8, w);
-    let b = comb(regs, ram, marks, area, t, 0x1DC, a.watch);
-    let c = comb(regs, ram, marks, area, t, 0x1E8, b.watch);
-    let d = comb(regs, ram, marks, area, t, 0x1EC, c.watch);
+    let a = comb(regs, ram, marks, line, 0x1D8, w);
+    let b = comb(regs, ram, marks, line, 0x1DC, a.watch);
+    let c = comb(regs, ram, marks, line, 0x1E8, b.watch);
+    let d = comb(regs, ram, marks, line, 0x1EC, c.watch);
     let value = combed(regs, a.value, b.value, c.value, d.value);
-    let watch = d.watch;
-    Sum { value, watch }
+    Seen {
+        value,
+        watch: d.watch,
+    }
 }
 
 // What an all-pass stores, and what it gives.
@@ -151,25 +137,26 @@ fn all_pass(
     regs: &[u16; 256],
     ram: &mut [u8],
     marks: &mut [u8],
-    area: Area,
-    t: Turning,
+    line: DelayLine,
     v: usize,
     m: usize,
     d: usize,
-    out: Sum,
-) -> Sum
-    requires { Lent area.size ram.old marks.old × AreaIn area × In 0x20000 0x20000 out.value × (v < 512) × (m < 512) × (d < 512) }
-    ensures { Does (all_pass regs.now area t v m d out.value) (mem_of ram.old marks.old out.watch) result.value (mem_of ram.new marks.new result.watch) × In 0x20000 0x20000 result.value }
+    out: Seen<i32>,
+) -> Seen<i32>
+    requires { Lent line.area.size ram.old marks.old × In 0x20000 0x20000 out.value × (v < 512) × (m < 512) × (d < 512) }
+    ensures { Does (all_pass regs.now line.area line.turning v m d out.value) (mem_of ram.old marks.old out.watch) result.value (mem_of ram.new marks.new result.watch) × In 0x20000 0x20000 result.value }
 {
     let to = bytes(regs, m);
     let back = bytes(regs, d);
-    let a = reverb::fetch(ram, marks, area, t, to, back, out.watch);
+    let a = line.fetch(ram, marks, to, back, out.watch);
     let x = passed(regs, out.value, a.value, v);
-    let stored = reverb::store(ram, marks, area, t, to, x, a.watch);
-    let b = reverb::fetch(ram, marks, area, t, to, back, stored);
+    let stored = line.store(ram, marks, to, x, a.watch);
+    let b = line.fetch(ram, marks, to, back, stored);
     let value = fed(regs, x, b.value, v);
-    let watch = b.watch;
-    Sum { value, watch }
+    Seen {
+        value,
+        watch: b.watch,
+    }
 }
 
 // What leaves.
@@ -185,22 +172,20 @@ fn reflections(
     regs: &[u16; 256],
     ram: &mut [u8],
     marks: &mut [u8],
-    area: Area,
-    t: Turning,
+    line: DelayLine,
     input: i16,
     w: Watch,
 ) -> Watch
-    requires { Lent area.size ram.old marks.old × AreaIn area }
-    ensures { Does (reflections_of regs.now area t input) (mem_of ram.old marks.old w) tt (mem_of ram.new marks.new result) }
+    requires { Lent line.area.size ram.old marks.old }
+    ensures { Does (reflections_of regs.now line.area line.turning input) (mem_of ram.old marks.old w) tt (mem_of ram.new marks.new result) }
 {
-    let s = reverb::side(t.right);
-    let o = reverb::side(!t.right);
+    let s = reverb::side(line.turning.right);
+    let o = reverb::side(!line.turning.right);
     let x = scaled_sample(regs, input, 0x1FC + s);
-    let m = [0x1D4 + s, 0x1E4 + s];
-    let d = [0x1E0 + s, 0x1F0 + o];
+    let pairs = [(0x1D4 + s, 0x1E0 + s), (0x1E4 + s, 0x1F0 + o)];
     let mut watch = w;
-    for k in 0..2usize {
-        watch = reflection(regs, ram, marks, area, t, x, m[k], d[k], watch);
+    for (m, d) in pairs {
+        watch = reflection(regs, ram, marks, line, x, m, d, watch);
     }
     watch
 }
@@ -210,20 +195,17 @@ fn all_passes(
     regs: &[u16; 256],
     ram: &mut [u8],
     marks: &mut [u8],
-    area: Area,
-    t: Turning,
-    out: Sum,
-) -> Sum
-    requires { Lent area.size ram.old marks.old × AreaIn area × In 0x20000 0x20000 out.value }
-    ensures { Does (all_passes regs.now area t out.value) (mem_of ram.old marks.old out.watch) result.value (mem_of ram.new marks.new result.watch) × In 0x20000 0x20000 result.value }
+    line: DelayLine,
+    out: Seen<i32>,
+) -> Seen<i32>
+    requires { Lent line.area.size ram.old marks.old × In 0x20000 0x20000 out.value }
+    ensures { Does (all_passes regs.now line.area line.turning out.value) (mem_of ram.old marks.old out.watch) result.value (mem_of ram.new marks.new result.watch) × In 0x20000 0x20000 result.value }
 {
-    let s = reverb::side(t.right);
-    let v = [0x1D0usize, 0x1D2];
-    let m = [0x1F4 + s, 0x1F8 + s];
-    let d = [0x1C0usize, 0x1C2];
+    let s = reverb::side(line.turning.right);
+    let triples = [(0x1D0, 0x1F4 + s, 0x1C0), (0x1D2, 0x1F8 + s, 0x1C2)];
     let mut sum = out;
-    for k in 0..2usize {
-        sum = all_pass(regs, ram, marks, area, t, v[k], m[k], d[k], sum);
+    for (v, m, d) in triples {
+        sum = all_pass(regs, ram, marks, line, v, m, d, sum);
     }
     sum
 }
@@ -233,18 +215,19 @@ pub fn turn(
     regs: &[u16; 256],
     ram: &mut [u8],
     marks: &mut [u8],
-    area: Area,
-    t: Turning,
+    line: DelayLine,
     input: i16,
     w: Watch,
-) -> Sample
-    requires { Lent area.size ram.old marks.old × AreaIn area }
-    ensures { Does (turn_of regs.now area t input) (mem_of ram.old marks.old w) result.value (mem_of ram.new marks.new result.watch) }
+) -> Seen<i16>
+    requires { Lent line.area.size ram.old marks.old }
+    ensures { Does (turn_of regs.now line.area line.turning input) (mem_of ram.old marks.old w) result.value (mem_of ram.new marks.new result.watch) }
 {
-    let early = reflections(regs, ram, marks, area, t, input, w);
-    let sum = combs(regs, ram, marks, area, t, early);
-    let late = all_passes(regs, ram, marks, area, t, sum);
-    let value = leaving(regs, t.right, late.value);
-    let watch = late.watch;
-    Sample { value, watch }
+    let early = reflections(regs, ram, marks, line, input, w);
+    let sum = combs(regs, ram, marks, line, early);
+    let late = all_passes(regs, ram, marks, line, sum);
+    let value = leaving(regs, line.turning.right, late.value);
+    Seen {
+        value,
+        watch: late.watch,
+    }
 }

@@ -1,16 +1,20 @@
 -- Laws of halfwords and marks; none asks that an address lies in what is lent. Assumes nothing.
-use mathlib.Core.Path.{◌≡◌, refl, ap, ap₂, sym, subst, ◌∙◌}
+use mathlib.Core.Path.{◌≡◌, refl, ap, ap₂, sym, ◌∙◌}
 use mathlib.Core.Bool.{Bool, true, false, cond}
 use mathlib.Core.List.{List, [], ◌∷◌}
-use Prim.Native.Nat.{ℕ, suc, zero, ◌+◌, ◌-◌, ◌*◌, ◌/◌, ◌%◌, ◌^◌, ◌<◌}
+use Prim.Native.Nat.{ℕ, suc, zero, ◌+◌, ◌*◌, ◌/◌, ◌%◌, ◌^◌, ◌<◌, max}
+use native.Mathlib.Nat.{max-zero, mul-div_cancel, mul-mod_left, pow-suc, zero-lt-suc}
+use native.Mathlib.Numerals.{one-add}
 use native.Mathlib.Omega.{arith}
 use native.Mathlib.Decide.{dec_lt, ℕ_discrete}
+use lib.Bits.{bit_or, or_step, or_zero_r}
 use lib.Dec.{eqb}
 use lib.ListN.{length, get_or, set, length-set}
-use lib.Seq.{get_or-set_same, get_or-set_other, set_out}
+use lib.Pow.{shr-shr}
+use lib.Seq.{get_or-set_same, get_or-set_other, set-get_or, set_out}
 use borrow.Author.Tests.{eqb-false, eq-eqb, ne_eqb}
 use Rattle.fixed.specs.Bits.{field}
-use Rattle.fixed.proofs.Bits.{bit_other, bit_clear, bit_fits, one_shl}
+use Rattle.fixed.proofs.Bits.{bit_other, bit_clear, one_shl}
 use Rattle.soundram.specs.Memory.{half, put_half, marked, mark}
 use Rattle.soundram.specs.TwoRuns.{AgreeAt}
 
@@ -19,6 +23,11 @@ use Rattle.soundram.specs.TwoRuns.{AgreeAt}
 pub put_half_length : (ram : List ℕ) (h v : ℕ) → length (put_half ram h v) ≡ length ram
 unfolding put_half
 put_half_length ram h v = simp length-set
+
+-- a halfword is put by its two bytes, as `to_le_bytes` gives them
+pub put_bytes : (ram : List ℕ) (h v : ℕ) → v < 0x10000 → set (set ram (h * 2) (v % 256)) (h * 2 + 1) (v / 256 % 256) ≡ put_half ram h v
+unfolding put_half
+put_bytes ram h v l = ap (λ (x : ℕ). set (set ram (h * 2) (v % 256)) (h * 2 + 1) x) (omega arith)
 
 pub half_agree : {r s : List ℕ} {h : ℕ} → AgreeAt r s h → half r h ≡ half s h
 unfolding half
@@ -59,21 +68,42 @@ agree_other r s h v x ne a =
 
 -- ---- marks
 
--- the two ways that the code marks a halfword
-pub mark_old : (marks : List ℕ) (h : ℕ) → field (h % 8) 1 (get_or marks (h / 8) 0) ≡ 1 → marks ≡ mark marks h
-unfolding mark marked
-mark_old marks h e = rw (eq-eqb (field (h % 8) 1 (get_or marks (h / 8) 0)) 1 e)
+-- a bit and the digits above the lowest
+or_double : (k b : ℕ) → bit_or b (2 ^ suc k) ≡ bit_or (b / 2) (2 ^ k) * 2 + b % 2
+or_double k b =
+    let p = pow-suc 2 k in
+    or_step b (2 ^ suc k)
+    ∙ ap₂ (λ (x y : ℕ). bit_or (b / 2) x * 2 + max (b % 2) y) (ap (λ (x : ℕ). x / 2) p ∙ mul-div_cancel (2 ^ k) (zero-lt-suc 1)) (ap (λ (x : ℕ). x % 2) p ∙ mul-mod_left (2 ^ k) 2)
+    ∙ ap (λ (x : ℕ). bit_or (b / 2) (2 ^ k) * 2 + x) (max-zero (b % 2))
 
-pub mark_new : (marks : List ℕ) (h : ℕ) → (field (h % 8) 1 (get_or marks (h / 8) 0) ≡ 1 → ⊥)
-    → set marks (h / 8) (get_or marks (h / 8) 0 + 1 * 2 ^ (h % 8) % 256) ≡ mark marks h
-unfolding mark marked
-mark_new marks h e = rw (one_shl 8 (h % 8) (omega arith), ne_eqb (field (h % 8) 1 (get_or marks (h / 8) 0)) 1 e)
+field_half : (k b : ℕ) → field k 1 (b / 2) ≡ field (suc k) 1 b
+field_half k b = ap (λ (x : ℕ). x % 2) (shr-shr b 1 k ∙ ap (λ (x : ℕ). b / 2 ^ x) (one-add k))
 
-pub mark_fits : (b h : ℕ) → b < 256 → (field (h % 8) 1 b ≡ 1 → ⊥) → b + 1 * 2 ^ (h % 8) % 256 < 256
-mark_fits b h l e =
-    let p : 7 - h % 8 + 1 + h % 8 ≡ 8 = omega arith in
-    rw (one_shl 8 (h % 8) (omega arith))
-    (subst (λ (n : ℕ). b + 2 ^ (h % 8) < 2 ^ n) p (bit_fits (7 - h % 8) b (h % 8) (subst (λ (n : ℕ). b < 2 ^ n) (sym p) l) (bit_clear b (h % 8) e)))
+or_set : (k b : ℕ) → field k 1 b ≡ 1 → bit_or b (2 ^ k) ≡ b
+or_set zero b e =
+    let p : b % 2 ≡ 1 = omega arith in
+    or_step b 1 ∙ ap₂ (λ (x y : ℕ). x * 2 + max y 1) (or_zero_r (b / 2)) p ∙ omega arith
+or_set (suc k) b e = or_double k b ∙ ap (λ (x : ℕ). x * 2 + b % 2) (or_set k (b / 2) (field_half k b ∙ e)) ∙ omega arith
+
+or_clear : (k b : ℕ) → field k 1 b ≡ 0 → bit_or b (2 ^ k) ≡ b + 2 ^ k
+or_clear zero b e =
+    let p : b % 2 ≡ 0 = omega arith in
+    or_step b 1 ∙ ap₂ (λ (x y : ℕ). x * 2 + max y 1) (or_zero_r (b / 2)) p ∙ omega arith
+or_clear (suc k) b e = or_double k b ∙ ap (λ (x : ℕ). x * 2 + b % 2) (or_clear k (b / 2) (field_half k b ∙ e)) ∙ omega (arith, pow-suc 2 k)
+
+-- a halfword is marked by a bitwise or
+pub mark_or : (marks : List ℕ) (h : ℕ) → set marks (h / 8) (bit_or (get_or marks (h / 8) 0) (2 ^ (h % 8))) ≡ mark marks h
+unfolding mark marked
+mark_or marks h =
+    let b : ℕ = get_or marks (h / 8) 0 in
+    elim (ℕ_discrete (field (h % 8) 1 b) 1) [
+      | yes e ↦ ap (λ (x : ℕ). set marks (h / 8) x) (or_set (h % 8) b e) ∙ set-get_or marks (h / 8) 0 ∙ rw (eq-eqb (field (h % 8) 1 b) 1 e)
+      | no e ↦ ap (λ (x : ℕ). set marks (h / 8) x) (or_clear (h % 8) b (bit_clear b (h % 8) e)) ∙ rw (ne_eqb (field (h % 8) 1 b) 1 e)
+    ]
+
+-- the bit as the code makes it
+pub mark_shifted : (marks : List ℕ) (h : ℕ) → set marks (h / 8) (bit_or (get_or marks (h / 8) 0) (1 * 2 ^ (h % 8) % 256)) ≡ mark marks h
+mark_shifted marks h = rw (one_shl 8 (h % 8) (omega arith)) (mark_or marks h)
 
 pub mark_length : (marks : List ℕ) (h : ℕ) → length (mark marks h) ≡ length marks
 unfolding mark

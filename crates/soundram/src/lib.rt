@@ -1,7 +1,7 @@
 // Sound RAM: its addresses, and what its halfwords, its marks and every access to them are.
 #![tactic(auto)]
 
-ghost use Rattle.std.specs.Prelude.{◌≡◌, ◌≤◌, ◌<◌};
+ghost use Rattle.std.specs.Prelude.{◌≡◌, ◌||◌, ◌&&◌, not, ◌≤◌, ◌<◌};
 ghost use Rattle.soundram.specs.Address.{address_of, unit_of, forward_of};
 
 // An address in units of 8 bytes, as registers hold it.
@@ -28,6 +28,26 @@ pub struct Watch {
     pub halfword: u32,
     pub latch: bool,
     pub doubt: bool,
+}
+
+impl Watch {
+    // What accesses leave of it; hit: one was to the halfword that it looks at; sure: none was a counted read of an unmarked halfword.
+    pub fn noticed(self, hit: bool, sure: bool) -> Watch
+        ensures { result ≡ record { armed = self.armed; halfword = self.halfword; latch = self.latch || (self.armed && hit); doubt = self.doubt || not sure } }
+    {
+        Watch {
+            latch: self.latch | (self.armed & hit),
+            doubt: self.doubt | !sure,
+            ..self
+        }
+    }
+}
+
+// What accesses gave, and what is watched after them.
+#[derive(Clone, Copy)]
+pub struct Seen<T> {
+    pub value: T,
+    pub watch: Watch,
 }
 
 // The byte address of a unit, in a sound RAM of size bytes. Most need no division.

@@ -16,7 +16,7 @@ ghost use Rattle.tick.specs.Run.{Finishes};
 
 use chip::Reverb;
 use noise::Noise;
-use reverb::{Area, Turning};
+use reverb::{Area, DelayLine, Turning};
 use soundram::{ByteAddress, UnitAddress, Watch};
 use stereo::Stereo;
 use voices::Sums;
@@ -201,13 +201,16 @@ fn turn(
     ensures { Does (reverb_of regs.now size r sums left right) (mem_of ram.old marks.old w) result.reverb (mem_of ram.new marks.new result.watch) }
 {
     let base = soundram::address_of(size, UnitAddress(registers::at(regs, 0x1A2)));
-    let area = Area {
-        size,
-        base: base.0,
-        place: r.place.0,
+    let line = DelayLine {
+        area: Area {
+            size,
+            base: base.0,
+            place: r.place.0,
+        },
+        turning: turning(regs, r.right),
     };
     let x = entering(regs, r.right, sums, left, right);
-    let out = reverb_turn::turn(regs, ram, marks, area, turning(regs, r.right), x, w);
+    let out = reverb_turn::turn(regs, ram, marks, line, x, w);
     let reverb = after(size, base.0, r, out.value);
     let watch = out.watch;
     Turned { reverb, watch }

@@ -4,7 +4,7 @@ use mathlib.Core.Bool.{Bool, true, false, ◌&&◌}
 use mathlib.Core.List.{List}
 use Prim.Native.Nat.{ℕ, zero, suc, ◌+◌, ◌-◌, ◌*◌, ◌/◌, ◌%◌, ◌^◌, ◌≤◌, ◌<◌, max}
 use native.Mathlib.Decide.{ℕ_discrete}
-use native.Mathlib.Nat.{max-le, zero-max, max-zero, suc-max-suc, mod-lt, mod-one, mul-div_cancel, mul-mod_left, pow-suc, zero-lt-suc}
+use native.Mathlib.Nat.{max-le, zero-max, max-zero, suc-max-suc, mod-lt, mod-one, mul-div_cancel, pow-suc, zero-lt-suc}
 use native.Mathlib.Numerals.{one-add}
 use native.Mathlib.Omega.{arith}
 use borrow.Author.Tests.{eq-eqb, ne_eqb}
@@ -17,45 +17,10 @@ use lib.Pow.{pow_pos, pow_mono, shr-shr, split, mod-mod-pow, high_ones}
 use lib.Seq.{set-get_or, set-set, get_or-set_same}
 use Rattle.fixed.specs.Bits.{field}
 use Rattle.fixed.specs.Tests.{all_below}
-use Rattle.fixed.proofs.Bits.{bit_clear, one_shl}
+use Rattle.fixed.proofs.Bits.{one_shl}
 use Rattle.soundram.specs.Memory.{marked, mark}
-use Rattle.soundram.proofs.Halfwords.{mark_old, mark_new}
+use Rattle.soundram.proofs.Halfwords.{mark_or}
 use Rattle.transfer.specs.Whole.{marked_from, all_marked}
-
--- ---- one mark, by a bitwise or
-
--- a bit and the digits above the lowest
-or_double : (k b : ℕ) → bit_or b (2 ^ suc k) ≡ bit_or (b / 2) (2 ^ k) * 2 + b % 2
-or_double k b =
-    let p = pow-suc 2 k in
-    or_step b (2 ^ suc k)
-    ∙ ap₂ (λ (x y : ℕ). bit_or (b / 2) x * 2 + max (b % 2) y) (ap (λ (x : ℕ). x / 2) p ∙ mul-div_cancel (2 ^ k) (zero-lt-suc 1)) (ap (λ (x : ℕ). x % 2) p ∙ mul-mod_left (2 ^ k) 2)
-    ∙ ap (λ (x : ℕ). bit_or (b / 2) (2 ^ k) * 2 + x) (max-zero (b % 2))
-
-field_half : (k b : ℕ) → field k 1 (b / 2) ≡ field (suc k) 1 b
-field_half k b = ap (λ (x : ℕ). x % 2) (shr-shr b 1 k ∙ ap (λ (x : ℕ). b / 2 ^ x) (one-add k))
-
-or_set : (k b : ℕ) → field k 1 b ≡ 1 → bit_or b (2 ^ k) ≡ b
-or_set zero b e =
-    let p : b % 2 ≡ 1 = omega arith in
-    or_step b 1 ∙ ap₂ (λ (x y : ℕ). x * 2 + max y 1) (or_zero_r (b / 2)) p ∙ omega arith
-or_set (suc k) b e = or_double k b ∙ ap (λ (x : ℕ). x * 2 + b % 2) (or_set k (b / 2) (field_half k b ∙ e)) ∙ omega arith
-
-or_clear : (k b : ℕ) → field k 1 b ≡ 0 → bit_or b (2 ^ k) ≡ b + 2 ^ k
-or_clear zero b e =
-    let p : b % 2 ≡ 0 = omega arith in
-    or_step b 1 ∙ ap₂ (λ (x y : ℕ). x * 2 + max y 1) (or_zero_r (b / 2)) p ∙ omega arith
-or_clear (suc k) b e = or_double k b ∙ ap (λ (x : ℕ). x * 2 + b % 2) (or_clear k (b / 2) (field_half k b ∙ e)) ∙ omega (arith, pow-suc 2 k)
-
-mark_or : (marks : List ℕ) (h : ℕ) → set marks (h / 8) (bit_or (get_or marks (h / 8) 0) (2 ^ (h % 8))) ≡ mark marks h
-mark_or marks h =
-    let b : ℕ = get_or marks (h / 8) 0 in
-    elim (ℕ_discrete (field (h % 8) 1 b) 1) [
-      | yes e ↦ ap (λ (x : ℕ). set marks (h / 8) x) (or_set (h % 8) b e) ∙ set-get_or marks (h / 8) 0 ∙ mark_old marks h e
-      | no e ↦
-          ap (λ (x : ℕ). set marks (h / 8) x) (or_clear (h % 8) b (bit_clear b (h % 8) e) ∙ ap (λ (x : ℕ). b + x) (sym (one_shl 8 (h % 8) (omega arith))))
-          ∙ mark_new marks h e
-    ]
 
 -- ---- m bits from bit k on, as the code makes them
 

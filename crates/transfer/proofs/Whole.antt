@@ -18,25 +18,12 @@ use Rattle.soundram.specs.Address.{forward_of, halfword_of}
 use Rattle.soundram.specs.Memory.{half, put_half, marked, mark, latched}
 use Rattle.soundram.specs.Program.{Does, mem_of, get, put, repeat}
 use Rattle.soundram.proofs.Addresses.{forward_small}
+use Rattle.soundram.proofs.Halfwords.{put_bytes}
 use Rattle.soundram.proofs.Programs.{does_give, does_bind, does_get, does_put}
 use Rattle.transfer.specs.Transfer.{put_at, inward_of, get_at, outward_of}
 use Rattle.transfer.specs.Whole.{stored_of, marked_from, copied_of, all_marked, passed_of}
 use Rattle.transfer.proofs.Marks.{marked_run, tested_run}
 use Rattle.transfer.proofs.Moves.{put_does, get_does}
-
--- ---- two bytes make a halfword
-
-pub half_fits : {v : ℕ} → v < 65536 → v / 256 < 256
-half_fits l = omega arith
-
-pub byte_fits : {b : ℕ} → b < 256 → b < 65536
-byte_fits l = omega arith
-
-pub high_fits : {b : ℕ} → b < 256 → b * 256 < 65536
-high_fits l = omega arith
-
-pub bytes_fit : {a b : ℕ} → a < 256 → b < 256 → a + b * 256 < 65536
-bytes_fit k l = omega arith
 
 -- ---- the loops: before them, and one halfword more
 
@@ -44,19 +31,19 @@ pub stored_none : (ram : List ℕ) (h : ℕ) (vs : List ℕ) → ram ≡ stored_
 unfolding stored_of
 stored_none ram h vs = refl
 
-pub stored_more : (ram : List ℕ) (h : ℕ) (vs : List ℕ) (n : ℕ) {ram' : List ℕ} → ram' ≡ stored_of ram h vs n
-    → set (set ram' ((h + n) * 2) (get_or vs n 0 % 256)) ((h + n) * 2 + 1) (get_or vs n 0 / 256) ≡ stored_of ram h vs (n + 1)
-unfolding stored_of put_half
-stored_more ram h vs n e = rw (e, add-one n)
+pub stored_more : (ram : List ℕ) (h : ℕ) (vs : List ℕ) (n : ℕ) {ram' : List ℕ} → ram' ≡ stored_of ram h vs n → get_or vs n 0 < 0x10000
+    → set (set ram' ((h + n) * 2) (get_or vs n 0 % 256)) ((h + n) * 2 + 1) (get_or vs n 0 / 256 % 256) ≡ stored_of ram h vs (n + 1)
+unfolding stored_of
+stored_more ram h vs n e l = put_bytes _ (h + n) _ l ∙ rw (e, add-one n)
 
 pub copied_none : (ram : List ℕ) (h : ℕ) (out : List ℕ) → out ≡ copied_of ram h out 0
 unfolding copied_of
 copied_none ram h out = refl
 
-pub copied_more : (ram : List ℕ) (h : ℕ) (out : List ℕ) (n : ℕ) {out' : List ℕ} → out' ≡ copied_of ram h out n
-    → set out' n (get_or ram ((h + n) * 2) 0 + get_or ram ((h + n) * 2 + 1) 0 * 256) ≡ copied_of ram h out (n + 1)
-unfolding copied_of half
-copied_more ram h out n e = rw (e, add-one n)
+pub copied_more : (ram : List ℕ) (h : ℕ) (out : List ℕ) (n : ℕ) {out' : List ℕ} {v : ℕ} → out' ≡ copied_of ram h out n → v ≡ half ram (h + n)
+    → set out' n v ≡ copied_of ram h out (n + 1)
+unfolding copied_of
+copied_more ram h out n e f = rw (e, f, add-one n)
 
 pub marked_none : (marks : List ℕ) (h : ℕ) → marks ≡ marked_from marks h 0
 unfolding marked_from

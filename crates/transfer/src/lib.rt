@@ -7,14 +7,10 @@ ghost use Rattle.soundram.specs.Program.{Does, mem_of};
 ghost use Rattle.transfer.specs.Transfer.{put_one, inward_of, outward_of};
 ghost use Rattle.transfer.specs.Whole.{stored_of, marked_from, copied_of, all_marked, passed_of};
 
-use soundram::{ByteAddress, Reader, Watch};
+use soundram::{ByteAddress, Reader, Seen, Watch};
 
 // The address after the halfwords moved so far.
-#[derive(Clone, Copy)]
-pub struct Moved {
-    pub address: ByteAddress,
-    pub watch: Watch,
-}
+pub type Moved = Seen<ByteAddress>;
 
 // ---- n halfwords from halfword h on, none past the end of sound RAM
 
@@ -23,23 +19,18 @@ fn passed(w: Watch, h: u32, n: u32, sure: bool) -> Watch
     requires { h + n ≤ 0x80000 }
     ensures { result ≡ passed_of w h n sure }
 {
-    Watch {
-        armed: w.armed,
-        halfword: w.halfword,
-        latch: w.latch | (w.armed & ((h <= w.halfword) & (w.halfword < h + n))),
-        doubt: w.doubt | !sure,
-    }
+    w.noticed((h <= w.halfword) & (w.halfword < h + n), sure)
 }
 
 fn store_all(ram: &mut [u8], h: usize, values: &[u16])
     requires { (h + length values.now) * 2 ≤ length ram.old }
     ensures { ram.new ≡ stored_of ram.old h values.now (length values.now) }
 {
-    for i in 0..values.len() {
+    for (i, v) in values.iter().enumerate() {
         let at = (h + i) * 2;
-        let v = values[i];
-        ram[at] = (v % 256) as u8;
-        ram[at + 1] = (v / 256) as u8;
+        let [low, high] = v.to_le_bytes();
+        ram[at] = low;
+        ram[at + 1] = high;
     }
 }
 
@@ -48,8 +39,7 @@ fn in_byte(h: usize, n: usize) -> usize
     requires { 0 < n }
     ensures { (h % 8 + result ≤ 8) × (result ≤ n) × (0 < result) }
 {
-    let room = 8 - h % 8;
-    if n < room { n } else { room }
+    n.min(8 - h % 8)
 }
 
 // The m bits of a byte from bit k on.
@@ -69,8 +59,7 @@ fn mark_all(marks: &mut [u8], h: usize, n: usize)
         let at = h + i;
         let m = in_byte(at, n - i);
         let mask = bits(at % 8, m);
-        let b = marks[at / 8];
-        marks[at / 8] = b | mask;
+        marks[at / 8] |= mask;
         i += m;
     }
 }
@@ -79,11 +68,9 @@ fn copy_all(ram: &[u8], h: usize, out: &mut [u16])
     requires { (h + length out.old) * 2 ≤ length ram.now }
     ensures { out.new ≡ copied_of ram.now h out.old (length out.old) }
 {
-    for i in 0..out.len() {
+    for (i, x) in out.iter_mut().enumerate() {
         let at = (h + i) * 2;
-        let low = ram[at];
-        let high = ram[at + 1];
-        out[i] = low as u16 + high as u16 * 256;
+        *x = u16::from_le_bytes([ram[at], ram[at + 1]]);
     }
 }
 
@@ -97,19 +84,21 @@ fn all_marked(marks: &[u8], h: usize, n: usize) -> bool
         let at = h + i;
         let m = in_byte(at, n - i);
         let mask = bits(at % 8, m);
-        ok = ok & (marks[at / 8] & mask == mask);
+        ok &= marks[at / 8] & mask == mask;
         i += m;
     }
     ok
 }
 
 fn put(ram: &mut [u8], marks: &mut [u8], size: u32, value: u16, m: Moved) -> Moved
-    requires { Lent size ram.old marks.old × (m.address.0 < size) }
-    ensures { Does (put_one size value m.address) (mem_of ram.old marks.old m.watch) result.address (mem_of ram.new marks.new result.watch) × (result.address.0 < size) }
+    requires { Lent size ram.old marks.old × (m.value.0 < size) }
+    ensures { Does (put_one size value m.value) (mem_of ram.old marks.old m.watch) result.value (mem_of ram.new marks.new result.watch) × (result.value.0 < size) }
 {
-    let watch = access::write(ram, marks, m.address, value, m.watch);
-    let address = soundram::forward(size, m.address, 2);
-    Moved { address, watch }
+    let watch = access::write(ram, marks, m.value, value, m.watch);
+    Seen {
+        value: soundram::forward(size, m.value, 2),
+        watch,
+    }
 }
 
 // The values into sound RAM, one at a time, because an address may wrap.
@@ -122,14 +111,11 @@ fn inward_around(
     w: Watch,
 ) -> Moved
     requires { Lent size ram.old marks.old × (a.0 < size) }
-    ensures { Does (inward_of size a values.now) (mem_of ram.old marks.old w) result.address (mem_of ram.new marks.new result.watch) }
+    ensures { Does (inward_of size a values.now) (mem_of ram.old marks.old w) result.value (mem_of ram.new marks.new result.watch) }
 {
-    let mut m = Moved {
-        address: a,
-        watch: w,
-    };
-    for i in 0..values.len() {
-        m = put(ram, marks, size, values[i], m);
+    let mut m = Seen { value: a, watch: w };
+    for value in values {
+        m = put(ram, marks, size, *value, m);
     }
     m
 }
@@ -144,15 +130,15 @@ fn inward_straight(
     w: Watch,
 ) -> Moved
     requires { Lent size ram.old marks.old × (a.0 + length values.now * 2 < size) }
-    ensures { Does (inward_of size a values.now) (mem_of ram.old marks.old w) result.address (mem_of ram.new marks.new result.watch) }
+    ensures { Does (inward_of size a values.now) (mem_of ram.old marks.old w) result.value (mem_of ram.new marks.new result.watch) }
 {
     let h = a.0 / 2;
     let n = values.len();
     store_all(ram, h as usize, values);
     mark_all(marks, h as usize, n);
     let watch = passed(w, h, n as u32, true);
-    Moved {
-        address: ByteAddress(a.0 + n as u32 * 2),
+    Seen {
+        value: ByteAddress(a.0 + n as u32 * 2),
         watch,
     }
 }
@@ -167,7 +153,7 @@ pub fn inward(
     w: Watch,
 ) -> Moved
     requires { Lent size ram.old marks.old × (a.0 < size) }
-    ensures { Does (inward_of size a values.now) (mem_of ram.old marks.old w) result.address (mem_of ram.new marks.new result.watch) }
+    ensures { Does (inward_of size a values.now) (mem_of ram.old marks.old w) result.value (mem_of ram.new marks.new result.watch) }
 {
     if values.len() < ((size - a.0) / 2) as usize {
         return inward_straight(ram, marks, size, a, values, w);
@@ -185,18 +171,20 @@ fn outward_around(
     w: Watch,
 ) -> Moved
     requires { Lent size ram.now marks.now × (a.0 < size) }
-    ensures { Does (outward_of size a out.old) (mem_of ram.now marks.now w) (record { address = result.address; buffer = out.new }) (mem_of ram.now marks.now result.watch) }
+    ensures { Does (outward_of size a out.old) (mem_of ram.now marks.now w) (record { address = result.value; buffer = out.new }) (mem_of ram.now marks.now result.watch) }
 {
     let mut address = a;
     let mut watch = w;
-    for i in 0..out.len() {
+    for x in out.iter_mut() {
         let got = access::read(ram, marks, Reader::Transfer, true, address, watch);
-        out[i] = got.value;
-        let next = got.watch;
-        watch = next;
+        *x = got.value;
+        watch = got.watch;
         address = soundram::forward(size, address, 2);
     }
-    Moved { address, watch }
+    Seen {
+        value: address,
+        watch,
+    }
 }
 
 // Out of sound RAM. The address after the last halfword lies in it too, so that none wraps.
@@ -209,15 +197,15 @@ fn outward_straight(
     w: Watch,
 ) -> Moved
     requires { Lent size ram.now marks.now × (a.0 + length out.old * 2 < size) }
-    ensures { Does (outward_of size a out.old) (mem_of ram.now marks.now w) (record { address = result.address; buffer = out.new }) (mem_of ram.now marks.now result.watch) }
+    ensures { Does (outward_of size a out.old) (mem_of ram.now marks.now w) (record { address = result.value; buffer = out.new }) (mem_of ram.now marks.now result.watch) }
 {
     let h = a.0 / 2;
     let n = out.len();
     copy_all(ram, h as usize, out);
     let sure = all_marked(marks, h as usize, n);
     let watch = passed(w, h, n as u32, sure);
-    Moved {
-        address: ByteAddress(a.0 + n as u32 * 2),
+    Seen {
+        value: ByteAddress(a.0 + n as u32 * 2),
         watch,
     }
 }
@@ -232,7 +220,7 @@ pub fn outward(
     w: Watch,
 ) -> Moved
     requires { Lent size ram.now marks.now × (a.0 < size) }
-    ensures { Does (outward_of size a out.old) (mem_of ram.now marks.now w) (record { address = result.address; buffer = out.new }) (mem_of ram.now marks.now result.watch) }
+    ensures { Does (outward_of size a out.old) (mem_of ram.now marks.now w) (record { address = result.value; buffer = out.new }) (mem_of ram.now marks.now result.watch) }
 {
     if out.len() < ((size - a.0) / 2) as usize {
         return outward_straight(ram, marks, size, a, out, w);

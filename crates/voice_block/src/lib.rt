@@ -67,9 +67,8 @@ pub fn fetch(v: Voice, who: Reader, size: u32, ram: &[u8], marks: &[u8], w: Watc
     ensures { Does (load_of who size v) (mem_of ram.now marks.now w) result.voice (mem_of ram.now marks.now result.watch) }
 {
     let b = access_block::load(ram, marks, who, size, v.source.address, w);
-    let voice = fill(v, b.bytes);
     Loaded {
-        voice,
+        voice: fill(v, b.value),
         watch: b.watch,
     }
 }

@@ -13,10 +13,7 @@ use voices::{Captured, Sums};
 fn gate(on: bool, volume: i16) -> i16
     ensures { result ≡ cond on volume (pos 0) }
 {
-    if on {
-        return volume;
-    }
-    0
+    if on { volume } else { 0 }
 }
 
 // The volumes of all voices, which hold as long as the registers do: left, right, and left and right of those with reverb, 24 of each.
@@ -74,10 +71,9 @@ pub fn mix(regs: &[u16; 256], v: &[i16; 96], amplitudes: [i16; 24]) -> Sums
 {
     let mut dry = Stereo { left: 0, right: 0 };
     let mut wet = Stereo { left: 0, right: 0 };
-    for n in 0..24usize {
-        let a = amplitudes[n];
-        dry = join(dry, both_sides(v, n, a));
-        wet = join(wet, both_sides(v, n + 48, a));
+    for (n, a) in amplitudes.iter().enumerate() {
+        dry = join(dry, both_sides(v, n, *a));
+        wet = join(wet, both_sides(v, n + 48, *a));
     }
     let captured = Captured {
         first: amplitudes[1],

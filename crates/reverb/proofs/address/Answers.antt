@@ -5,5 +5,5 @@ use Rattle.reverb.proofs.address.Goals as goal
 pub returns-then-back-k : goal.returns-then-back-k
 returns-then-back-k c = search (address_after, rules)
 
-pub returns : goal.returns
-returns c = search (address_before, rules)
+pub returns-else-back-k : goal.returns-else-back-k
+returns-else-back-k c = search (address_before, rules)

@@ -5,5 +5,5 @@ use Rattle.reverb.proofs.remainder.Goals as goal
 pub returns-then-n-span : goal.returns-then-n-span
 returns-then-n-span c = search (mod-eq_of_lt, rules)
 
-pub returns : goal.returns
-returns c = search (mod-lt, rules)
+pub returns-else-n-span : goal.returns-else-n-span
+returns-else-n-span c = search (mod-lt, rules)

@@ -4,5 +4,5 @@ use Rattle.reverb.proofs.who.Goals as goal
 pub returns-then-right : goal.returns-then-right
 returns-then-right c = search who_right
 
-pub returns : goal.returns
-returns c = search who_left
+pub returns-else-right : goal.returns-else-right
+returns-else-right c = search who_left

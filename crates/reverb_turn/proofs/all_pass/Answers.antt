@@ -9,11 +9,11 @@ use Rattle.reverb_turn.proofs.all_pass.Goals as goal
 
 pub fetch-b-requires : goal.fetch-b-requires
 fetch-b-requires c =
-    (lent_after c.store-stored.ensures c.requires.0, c.requires.1, c.bytes-to.ensures.1, c.bytes-back.ensures.1)
+    (lent_after c.store-stored.ensures c.requires.0, c.bytes-to.ensures.1, c.bytes-back.ensures.1)
 
 pub fed-value-requires : goal.fed-value-requires
 fed-value-requires c =
-    c.requires.3
+    c.requires.2
 
 pub returns : goal.returns
 returns c =

@@ -7,11 +7,11 @@ use Rattle.reverb_turn.proofs.reflection.Goals as goal
 
 pub reflected-x-requires : goal.reflected-x-requires
 reflected-x-requires c =
-    passed_in w32 c.requires.2 tt
+    passed_in w32 c.requires.1 tt
 
 pub store-requires : goal.store-requires
 store-requires c =
-    (c.requires.0, c.requires.1, c.bytes-to.ensures.1)
+    (c.requires.0, c.bytes-to.ensures.1)
 
 pub returns : goal.returns
 returns c =

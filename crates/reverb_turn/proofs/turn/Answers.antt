@@ -8,11 +8,11 @@ use Rattle.reverb_turn.proofs.turn.Goals as goal
 
 pub combs-sum-requires : goal.combs-sum-requires
 combs-sum-requires c =
-    (lent_after c.reflections-early.ensures c.requires.0, c.requires.1)
+    lent_after c.reflections-early.ensures c.requires
 
 pub all_passes-late-requires : goal.all_passes-late-requires
 all_passes-late-requires c =
-    (lent_after c.reflections-early.ensures c.requires.0, c.requires.1, c.combs-sum.ensures.1)
+    (lent_after c.reflections-early.ensures c.requires, c.combs-sum.ensures.1)
 
 pub leaving-value-requires : goal.leaving-value-requires
 leaving-value-requires c =

@@ -3,9 +3,12 @@ use Rattle.fixed.proofs.Number.{ok, is}
 use Rattle.tick.proofs.Parts.{area_in, turn_does}
 use Rattle.tick.proofs.turn.Goals as goal
 
+pub invariant_of-line : goal.invariant_of-line
+invariant_of-line c =
+    let p = c.requires in record { inside = area_in p.0.sized p.1 (rw (c.address_of-base.ensures, c.at.ensures)) }
+
 pub turn-out-requires : goal.turn-out-requires
-turn-out-requires c =
-    let p = c.requires in (p.0, area_in p.0.sized p.1 (rw (c.address_of-base.ensures, c.at.ensures)))
+turn-out-requires c = c.requires.0
 
 pub after-reverb-requires : goal.after-reverb-requires
 after-reverb-requires c =

@@ -1,29 +1,26 @@
-use mathlib.Core.Path.{refl}
 use native.Mathlib.Omega.{arith}
-use borrow.Author.Rules.{rules}
 use Rattle.soundram.proofs.Addresses.{forward_below}
 use Rattle.soundram.proofs.Programs.{within, repeat_none, repeat_more, repeat_end}
 use Rattle.transfer.specs.Transfer.{outward_of}
 use Rattle.transfer.proofs.Moves.{get_does}
 use Rattle.transfer.proofs.outward_around.Goals as goal
 
-pub loop-i-init : goal.loop-i-init
-loop-i-init c =
-    (omega arith, refl, refl, c.requires.0, c.requires.1, repeat_none _ _ _)
+pub loop-x-init : goal.loop-x-init
+loop-x-init c = (c.requires.0, c.requires.1, repeat_none _ _ _)
 
 pub read-got-requires : goal.read-got-requires
-read-got-requires c =
-    within c.loop-i.invariant.3 c.loop-i.invariant.4
+read-got-requires c = within c.loop-x.invariant.0 c.loop-x.invariant.1
 
 pub forward-address-requires : goal.forward-address-requires
 forward-address-requires c =
-    let z = c.loop-i.invariant.3.sized in (c.loop-i.invariant.4, omega (arith, z.least), z.most)
+    let z = c.loop-x.invariant.0.sized in
+    (c.loop-x.invariant.1, omega (arith, z.least), z.most)
 
-pub loop-i-preserved : goal.loop-i-preserved
-loop-i-preserved c =
-    let v = c.loop-i.invariant in (omega (arith, c.loop-i-test.true), v.1, search (rules, v.2), v.3, forward_below _ _ _ 2 c.forward-address.ensures v.4, repeat_more _ _ _ _ _ v.5 (get_does _ _ _ _ c.read-got.ensures c.forward-address.ensures))
+pub loop-x-preserved : goal.loop-x-preserved
+loop-x-preserved c =
+    let v = c.loop-x.invariant in
+    (v.0, forward_below _ _ _ 2 c.forward-address.ensures v.1, repeat_more _ _ _ _ _ v.2 (get_does _ _ _ _ c.read-got.ensures c.forward-address.ensures))
 
 pub returns : goal.returns
 unfolding outward_of
-returns c =
-    let v = c.loop-i.invariant in repeat_end _ _ _ _ _ v.5 (omega (arith, v.0, v.1)) (omega (arith, c.loop-i-test.false, v.1))
+returns c = repeat_end _ _ _ _ _ c.loop-x.invariant.2 c.loop-x.auto.x-index-end c.loop-x-test.false

@@ -1,7 +1,6 @@
-use mathlib.Core.Path.{refl}
 use Rattle.transfer.specs.Whole.{passed_of}
 use Rattle.transfer.proofs.passed.Goals as goal
 
 pub returns : goal.returns
 unfolding passed_of
-returns c = refl
+returns c = c.noticed.ensures

@@ -4,4 +4,4 @@ use Rattle.transfer.proofs.put.Goals as goal
 
 pub returns : goal.returns
 returns c =
-    (put_does _ _ _ c.write-watch.ensures c.forward-address.ensures, forward_below _ _ _ 2 c.forward-address.ensures c.requires.1)
+    (put_does _ _ _ c.write-watch.ensures c.forward.ensures, forward_below _ _ _ 2 c.forward.ensures c.requires.1)

@@ -23,8 +23,8 @@ loop-n-preserved c =
     let v = c.loop-n.invariant in
     let h : c.loop-n.n < 24 = omega (arith, c.loop-n-test.true) in (
       omega arith,
-      mixed_dry _ _ _ _ c.requires h (search (rules, c.a-1.given)) v.1 c.both_sides.ensures.0 c.join-dry.ensures,
-      mixed_wet _ _ _ _ c.requires h (search (rules, c.a-1.given)) v.2 c.both_sides-in-loop-n.ensures.0 c.join-wet.ensures,
+      mixed_dry _ _ _ _ c.requires h (search (rules, c.amplitudes-1.given)) v.1 c.both_sides.ensures.0 c.join-dry.ensures,
+      mixed_wet _ _ _ _ c.requires h (search (rules, c.amplitudes-1.given)) v.2 c.both_sides-in-loop-n.ensures.0 c.join-wet.ensures,
       joined_in _ _ _ c.join-dry.ensures v.3 c.both_sides.ensures.1,
       joined_in _ _ _ c.join-wet.ensures v.4 c.both_sides-in-loop-n.ensures.1,
     )
