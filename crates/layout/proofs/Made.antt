@@ -5,7 +5,7 @@ use mathlib.Core.List.{List, [], ◌∷◌}
 use Prim.Native.Nat.{ℕ, zero, suc, ◌+◌, ◌-◌, ◌%◌, ◌≤◌, ◌<◌}
 use native.Mathlib.Decide.{ℕ_discrete}
 use native.Mathlib.Omega.{arith}
-use lib.ListN.{length, get_or, set, take, replicate, length-set, get_or-replicate, replicate-append-replicate}
+use lib.ListN.{length, get_or, set, replicate, length-set, get_or-replicate, replicate-append-replicate}
 use lib.Seq.{get_or-set_same, get_or-set_other, ext_get_or}
 use Rattle.fixed.specs.Signed.{signed}
 use Rattle.voice.specs.declared.Voice.{Voice}
@@ -16,21 +16,16 @@ use Rattle.layout.specs.Layout.{list_of, every, region, registers_at, tail_at, t
 use Rattle.layout.specs.Stores.{with_noise, with_voice, zeros_of, blank_of}
 use Rattle.layout.proofs.Laws.{list_same, placed, formed, self_holds, holds_as, voices_count}
 use Rattle.layout.proofs.Put.{wide_back}
-use Rattle.layout.proofs.Read.{filled_all}
 
 -- ---- zeros
 
-abbrev pub none : ℕ → ℕ
+abbrev none : ℕ → ℕ
 none k = 0
 
 zeros : (n : ℕ) → list_of none n ≡ replicate n 0
 unfolding list_of
 zeros zero = refl
 zeros (suc n) = let q : n + 1 ≡ suc n = omega arith in rw (zeros n) (replicate-append-replicate n 1 0 ∙ ap (λ (k : ℕ). replicate k 0) q)
-
-pub cleared : (i k : ℕ) {xs : List ℕ} → length xs ≡ k → take i xs ≡ list_of none i → i ≤ k → k ≤ i → xs ≡ zeros_of k
-unfolding zeros_of
-cleared i k l e h g = filled_all none i k l e h g ∙ zeros k
 
 -- ---- the head, and zeros after it
 

@@ -1,6 +1,6 @@
 -- What the code reads out of a buffer, as the state that stands in it has it. Assumes nothing.
 use mathlib.Core.Path.{◌≡◌, refl, sym, ap, ◌∙◌}
-use mathlib.Core.Bool.{◌&&◌}
+use mathlib.Core.Bool.{Bool, ◌&&◌}
 use mathlib.Core.List.{List, []}
 use Prim.Native.Nat.{ℕ, zero, suc, ◌+◌, ◌*◌, ◌-◌, ◌≤◌, ◌<◌}
 use native.Mathlib.Omega.{arith}
@@ -8,7 +8,9 @@ use borrow.Author.Tests.{leb-true, le-leb, lt-leb, ne_eqb}
 use lib.Dec.{eqb, leb}
 use lib.IntN.{ℤ, pos}
 use lib.ListN.{length, get_or, take, set}
-use lib.Seq.{take_all, take-suc-set}
+use lib.Seq.{ext_get_or, take_all, take-suc-set}
+use Rattle.std.specs.List.{between}
+use Rattle.std.proofs.lemmas.List.Edits.{length-between, get_or-between}
 use Rattle.fixed.specs.Signed.{signed}
 use Rattle.envelope.specs.declared.Phase.{Phase}
 use Rattle.envelope.specs.Adsr.{active}
@@ -21,7 +23,7 @@ use Rattle.voice.specs.declared.Voice.{Voice}
 use Rattle.voice.specs.Voice.{is_idle}
 use Rattle.voices.specs.Voices.{past_end}
 use Rattle.layout.specs.Layout.{list_of, region, registers_at, place, row_of, parts_of, wide, phase_of, voice_from, state_from, state_of, is_row, Formed}
-use Rattle.layout.proofs.Laws.{list_at, list_same, region_at, place_high, row_at, voice_at_lem, form_row, first_of, skip}
+use Rattle.layout.proofs.Laws.{list_length, list_at, list_same, region_at, place_high, row_at, voice_at_lem, form_row, first_of, skip}
 
 -- ---- a list that a loop fills
 
@@ -36,6 +38,14 @@ module _ {A : Type 0} (f : ℕ → A) where
 
   pub filled_all : (n k : ℕ) {xs : List A} → length xs ≡ k → take n xs ≡ list_of f n → n ≤ k → k ≤ n → xs ≡ list_of f k
   filled_all n k {xs} l e h g = let q : n ≡ k = omega arith in sym (take_all n xs (omega arith)) ∙ e ∙ ap (list_of f) q
+
+-- a part of a list that is copied
+pub part_is : (xs : List ℕ) (base count : ℕ) {ys : List ℕ} → base + count ≤ length xs → ys ≡ between base (base + count) xs → ys ≡ list_of (λ k. get_or xs (base + k) 0) count
+part_is xs base count {ys} h e =
+    let f : ℕ → ℕ = λ k. get_or xs (base + k) 0 in
+    let l : length ys ≡ count = ap length e ∙ length-between xs base (base + count) (omega arith) ∙ omega arith in
+    ext_get_or 0 ys (list_of f count) (l ∙ sym (list_length f count))
+    (λ k h. let i : k < count = omega arith in ap (λ (zs : List ℕ). get_or zs k 0) e ∙ get_or-between xs base (base + count) k 0 (omega arith) ∙ sym (list_at f count k 0 i))
 
 -- ---- the head and the registers
 
@@ -131,10 +141,10 @@ module _ (xs : List ℕ) (n : ℕ) (h : n < 24) where
       let l : get_or (row_of xs n) 9 0 ≤ 0xFF = leb-true _ _ (first_of _ _ (skip _ _ (skip _ _ (form_row xs n e.form h)))) in
       rw (row_at xs n 9 (omega arith)) at l
 
-  pub playing_is : {f : ℕ} {s : List ℤ} → f ≡ get_or xs (476 + n) 0 → s ≡ list_of (λ k. signed 16 (get_or xs (524 + n * 31 + k) 0)) 31
-      → record { loaded = eqb (get_or xs (452 + n) 0) 1; flags = f; samples = s } ≡ here.playing
+  pub playing_is : {b : Bool} {f : ℕ} {s : List ℤ} → b ≡ here.playing.loaded → f ≡ get_or xs (476 + n) 0 → s ≡ list_of (λ k. signed 16 (get_or xs (524 + n * 31 + k) 0)) 31
+      → record { loaded = b; flags = f; samples = s } ≡ here.playing
   unfolding voice_from place
-  playing_is e f = rw (e, f, samples_row, voice_at_lem xs n h, row_at xs n 8 (omega arith), row_at xs n 9 (omega arith))
+  playing_is eb e f = rw (eb, e, f, samples_row, voice_at_lem xs n h, row_at xs n 9 (omega arith))
 
   pub sample_is : (k : ℕ) → k < 31 → {r : ℤ} → r ≡ signed 16 (get_or xs (524 + n * 31 + k) 0) → r ≡ get_or here.playing.samples k (pos 0)
   unfolding voice_from

@@ -90,13 +90,6 @@ fn high(x: u32) -> u16
     (x / 0x10000) as u16
 }
 
-fn byte(x: u16) -> u8
-    requires { x ≤ 0xFF }
-    ensures { result ≡ x }
-{
-    x as u8
-}
-
 // The byte address of a unit.
 fn address(unit: u16) -> ByteAddress
     ensures { result ≡ record { 0 = unit * 8 } }
@@ -113,25 +106,18 @@ pub fn size(state: &[u16]) -> u32
     wide(state[2], state[3])
 }
 
+#[tactic(auto, unfolding(crate::specs::Layout::phase_of))]
 pub fn phase_of(n: u16) -> Phase
     ensures { result ≡ phase_of n }
 {
-    if n == 0 {
-        return Phase::Idle;
+    match n {
+        0 => Phase::Idle,
+        1 => Phase::Attack,
+        2 => Phase::Decay,
+        3 => Phase::Sustain,
+        4 => Phase::Release,
+        _ => Phase::Off,
     }
-    if n == 1 {
-        return Phase::Attack;
-    }
-    if n == 2 {
-        return Phase::Decay;
-    }
-    if n == 3 {
-        return Phase::Sustain;
-    }
-    if n == 4 {
-        return Phase::Release;
-    }
-    Phase::Off
 }
 
 // The registers, copied out.
@@ -139,10 +125,8 @@ pub fn registers(state: &[u16]) -> [u16; 256]
     requires { length state.now ≡ state_length }
     ensures { result ≡ (state_of state.now).regs }
 {
-    let mut regs = [0u16; 256];
-    for i in 0..256usize {
-        regs[i] = state[REGISTERS + i];
-    }
+    let mut regs = [0; 256];
+    regs.copy_from_slice(&state[REGISTERS..PHASES]);
     regs
 }
 
@@ -150,9 +134,8 @@ pub fn envelope(state: &[u16], n: usize) -> Envelope
     requires { (n < 24) × (length state.now ≡ state_length) }
     ensures { result ≡ (voice_in state.now n).envelope }
 {
-    let phase = phase(state, n);
     Envelope {
-        phase,
+        phase: phase(state, n),
         level: level(state, n),
         wait: wait(state, n),
     }
@@ -215,7 +198,8 @@ fn samples(state: &[u16], n: usize) -> [i16; 31]
     requires { (n < 24) × (length state.now ≡ state_length) }
     ensures { result ≡ list_of (λ k. signed 16 (get_or state.now (524 + n * 31 + k) 0)) 31 }
 {
-    let mut all = [0i16; 31];
+    // by an index: the proof does not follow signed numbers through array::from_fn
+    let mut all = [0; 31];
     for k in 0..31usize {
         all[k] = fixed::to_signed(state[SAMPLES + n * 31 + k]);
     }
@@ -238,7 +222,7 @@ pub fn position(state: &[u16], n: usize) -> Position
 {
     Position {
         counter: state[COUNTERS + n],
-        index: byte(state[INDICES + n]),
+        index: state[INDICES + n] as u8,
     }
 }
 
@@ -246,11 +230,10 @@ fn playing(state: &[u16], n: usize) -> Playing
     requires { (n < 24) × Formed state.now }
     ensures { result ≡ (voice_in state.now n).playing }
 {
-    let samples = samples(state, n);
     Playing {
-        loaded: state[LOADED + n] == 1,
-        flags: byte(state[FLAGS + n]),
-        samples,
+        loaded: loaded(state, n),
+        flags: state[FLAGS + n] as u8,
+        samples: samples(state, n),
     }
 }
 
@@ -259,15 +242,11 @@ pub fn voice(state: &[u16], n: usize) -> Voice
     requires { (n < 24) × Formed state.now × ((voice_in state.now n).position.index ≤ 27) }
     ensures { result ≡ voice_in state.now n }
 {
-    let envelope = envelope(state, n);
-    let source = source(state, n);
-    let position = position(state, n);
-    let playing = playing(state, n);
     Voice {
-        envelope,
-        source,
-        position,
-        playing,
+        envelope: envelope(state, n),
+        source: source(state, n),
+        position: position(state, n),
+        playing: playing(state, n),
         ended: state[ENDED + n] == 1,
     }
 }
@@ -278,10 +257,9 @@ pub fn noise(state: &[u16]) -> Noise
     requires { length state.now ≡ state_length }
     ensures { result ≡ (state_of state.now).noise }
 {
-    let timer = wide(state[TIMER], state[TIMER + 1]);
     Noise {
         level: state[NOISE],
-        timer,
+        timer: wide(state[TIMER], state[TIMER + 1]),
     }
 }
 
@@ -296,18 +274,11 @@ pub fn control(state: &[u16]) -> Control
     }
 }
 
-fn double(x: u16) -> u16
-    requires { x * 2 < 0x10000 }
-    ensures { result ≡ x * 2 }
-{
-    x * 2
-}
-
 pub fn capture(state: &[u16]) -> u16
     requires { (length state.now ≡ state_length) × ((state_of state.now).capture < 0x400) }
     ensures { result ≡ (state_of state.now).capture }
 {
-    double(state[CAPTURE])
+    state[CAPTURE] * 2
 }
 
 // The byte address of a halfword whose number stands in two halves.
@@ -322,15 +293,13 @@ pub fn reverb(state: &[u16]) -> Reverb
     requires { (length state.now ≡ state_length) × ((state_of state.now).reverb.place.0 < 0x80000) }
     ensures { result ≡ (state_of state.now).reverb }
 {
-    let place = address_of(state[PLACE], state[PLACE + 1]);
-    let held = Stereo {
-        left: fixed::to_signed(state[HELD]),
-        right: fixed::to_signed(state[HELD + 1]),
-    };
     Reverb {
-        place,
+        place: address_of(state[PLACE], state[PLACE + 1]),
         right: state[RIGHT] == 1,
-        held,
+        held: Stereo {
+            left: fixed::to_signed(state[HELD]),
+            right: fixed::to_signed(state[HELD + 1]),
+        },
     }
 }
 
@@ -389,17 +358,17 @@ fn put_words(state: &mut [u16], n: usize, words: &[u16; 11])
     requires { (n < 24) × (length state.old ≡ state_length) }
     ensures { state.new ≡ put_words (λ w. get_or words.now w 0) n 0 state.old 11 }
 {
-    for w in 0..11usize {
-        state[place(n, w)] = words[w];
+    for (w, word) in words.iter().enumerate() {
+        state[place(n, w)] = *word;
     }
 }
 
-fn put_samples(state: &mut [u16], n: usize, samples: [i16; 31])
+fn put_samples(state: &mut [u16], n: usize, samples: &[i16; 31])
     requires { (n < 24) × (length state.old ≡ state_length) }
-    ensures { (state.new ≡ put_words (sample_word samples) n 11 state.old 31) × Samples samples }
+    ensures { (state.new ≡ put_words (sample_word samples.now) n 11 state.old 31) × Samples samples.now }
 {
-    for k in 0..31usize {
-        state[SAMPLES + n * 31 + k] = fixed::to_bits(samples[k]);
+    for (k, sample) in samples.iter().enumerate() {
+        state[SAMPLES + n * 31 + k] = fixed::to_bits(*sample);
     }
 }
 
@@ -429,11 +398,8 @@ pub fn put_voice(state: &mut [u16], n: usize, v: Voice)
     requires { (n < 24) × Formed state.old × (v.source.address.0 % 8 ≡ 0) × (v.source.address.0 < 0x80000) }
     ensures { Holds state.new (with_voice (state_of state.old) n v) }
 {
-    let e = v.envelope;
-    let phase = e.phase;
-    let p = phase_number(phase);
-    let all = [
-        p,
+    let words = [
+        phase_number(v.envelope.phase),
         v.envelope.level,
         low(v.envelope.wait),
         high(v.envelope.wait),
@@ -445,9 +411,8 @@ pub fn put_voice(state: &mut [u16], n: usize, v: Voice)
         v.playing.flags as u16,
         v.ended as u16,
     ];
-    put_words(state, n, &all);
-    let samples = v.playing.samples;
-    put_samples(state, n, samples);
+    put_words(state, n, &words);
+    put_samples(state, n, &v.playing.samples);
 }
 
 // Replaces its envelope alone.
@@ -455,9 +420,7 @@ pub fn put_envelope(state: &mut [u16], n: usize, e: Envelope)
     requires { (n < 24) × Formed state.old }
     ensures { Holds state.new (with_voice (state_of state.old) n (with_envelope (voice_in state.old n) e)) }
 {
-    let phase = e.phase;
-    let p = phase_number(phase);
-    state[PHASES + n] = p;
+    state[PHASES + n] = phase_number(e.phase);
     state[LEVELS + n] = e.level;
     state[WAITS + n * 2] = low(e.wait);
     state[WAITS + n * 2 + 1] = high(e.wait);
@@ -543,8 +506,8 @@ fn put_tail(state: &mut [u16], words: &[u16; 14])
     requires { length state.old ≡ state_length }
     ensures { state.new ≡ put_tail (λ i. get_or words.now i 0) 0 state.old 14 }
 {
-    for i in 0..14usize {
-        state[NOISE + i] = words[i];
+    for (i, word) in words.iter().enumerate() {
+        state[NOISE + i] = *word;
     }
 }
 
@@ -560,7 +523,7 @@ pub fn put_rest(
     requires { Formed state.old × (capture % 2 ≡ 0) × (reverb.place.0 % 2 ≡ 0) }
     ensures { Holds state.new (with_rest (state_of state.old) noise control capture reverb tick) }
 {
-    let all = [
+    let words = [
         noise.level,
         low(noise.timer),
         high(noise.timer),
@@ -576,7 +539,7 @@ pub fn put_rest(
         low(tick),
         high(tick),
     ];
-    put_tail(state, &all);
+    put_tail(state, &words);
 }
 
 // ---- make
@@ -585,9 +548,7 @@ fn clear(state: &mut [u16])
     requires { length state.old ≡ state_length }
     ensures { state.new ≡ zeros_of state_length }
 {
-    for i in 0..LENGTH {
-        state[i] = 0;
-    }
+    state.fill(0);
 }
 
 // A fresh state but for its register, its timer and its voices.

@@ -5,7 +5,7 @@ use mathlib.Core.List.{List, [], ◌∷◌, ◌++◌}
 use Prim.Native.Nat.{ℕ, zero, suc, ◌+◌, ◌-◌, ◌*◌, ◌/◌, ◌%◌, ◌≤◌, ◌<◌}
 use native.Mathlib.Omega.{arith}
 use mathlib.Core.Logic.{◌⊎◌, inl, inr}
-use borrow.Author.Tests.{not-true, not-false, leb-true, le-leb, eq-eqb, ne_eqb, eqb-true}
+use borrow.Author.Tests.{leb-true, le-leb, eq-eqb, ne_eqb, eqb-true}
 use lib.Bits.{bit_and, and_mask}
 use lib.Dec.{leb, ltb, eqb}
 use lib.ListN.{length, get_or}
@@ -115,11 +115,11 @@ module _ (xs : List ℕ) where
     unfolding parts_of
     voices_tested ec = rw (every_list is_row (row_of xs) 24) (and_all _ _ 24 ed ec ∙ all_same _ _ 24 (one_voice last) ∙ all_and _ _ 24)
 
-    pub fields_no : not d ≡ true → false ≡ (every is_row (parts_of xs).rows && every_ok ((last + 1) * 8) (state_of xs).voices 24)
-    fields_no t = ap (λ b. b && all_below 24 waiting) (sym (not-true d t)) ∙ voices_tested refl
+    pub fields_no : d ≡ false → d ≡ (every is_row (parts_of xs).rows && every_ok ((last + 1) * 8) (state_of xs).voices 24)
+    fields_no t = t ∙ ap (λ b. b && all_below 24 waiting) (sym t) ∙ voices_tested refl
 
-    pub fields_yes : {c : Bool} → not d ≡ false → c ≡ all_below 24 waiting → c ≡ (every is_row (parts_of xs).rows && every_ok ((last + 1) * 8) (state_of xs).voices 24)
-    fields_yes {c} t ec = ap (λ b. b && c) (sym (not-false d t)) ∙ voices_tested ec
+    pub fields_yes : {c : Bool} → d ≡ true → c ≡ all_below 24 waiting → c ≡ (every is_row (parts_of xs).rows && every_ok ((last + 1) * 8) (state_of xs).voices 24)
+    fields_yes {c} t ec = ap (λ b. b && c) (sym t) ∙ voices_tested ec
 
   -- a phase that has no steps
   resting : (p : ℕ) → (eqb p 0 || leb 5 p) ≡ not (active (phase_of p))
@@ -190,7 +190,7 @@ module _ (xs : List ℕ) where
 
 -- ---- the whole
 
-pub other_length : (xs : List ℕ) → (length xs ≡ state_length → ⊥) → false ≡ is_tagged xs
+pub other_length : (xs : List ℕ) → (length xs ≡ state_length → ⊥) → eqb (length xs) state_length ≡ is_tagged xs
 unfolding is_tagged all_of
 other_length xs h = rw (ne_eqb (length xs) state_length h)
 
@@ -206,11 +206,11 @@ module _ (xs : List ℕ) (last : ℕ) (a : Bool) {size : ℕ} (t : is_tagged xs 
       rw (eb, f, t, and_assoc (every is_row (parts_of xs).rows) (is_tail (parts_of xs).tail) (state_ok (state_of xs)), ← ea)
       (swap a (every is_row (parts_of xs).rows) (every_ok size (state_of xs).voices 24))
 
-  pub rest_no : not a ≡ true → false ≡ is_state xs
-  rest_no n = ap (λ x. x && (every is_row (parts_of xs).rows && every_ok ((last + 1) * 8) (state_of xs).voices 24)) (sym (not-true a n)) ∙ state_tested refl
+  pub rest_no : a ≡ false → a ≡ is_state xs
+  rest_no n = n ∙ ap (λ x. x && (every is_row (parts_of xs).rows && every_ok ((last + 1) * 8) (state_of xs).voices 24)) (sym n) ∙ state_tested refl
 
-  pub rest_yes : {b : Bool} → not a ≡ false → b ≡ (every is_row (parts_of xs).rows && every_ok ((last + 1) * 8) (state_of xs).voices 24) → b ≡ is_state xs
-  rest_yes {b} n eb = ap (λ x. x && b) (sym (not-false a n)) ∙ state_tested eb
+  pub rest_yes : {b : Bool} → a ≡ true → b ≡ (every is_row (parts_of xs).rows && every_ok ((last + 1) * 8) (state_of xs).voices 24) → b ≡ is_state xs
+  rest_yes {b} n eb = ap (λ x. x && b) (sym n) ∙ state_tested eb
 
 -- ---- the two sizes
 

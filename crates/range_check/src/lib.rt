@@ -19,10 +19,7 @@ pub fn size_ok(size: u32) -> bool
 pub fn is_tagged(state: &[u16]) -> bool
     ensures { result ≡ is_tagged state.now }
 {
-    if state.len() != layout::LENGTH {
-        return false;
-    }
-    (state[0] == layout::TAG) & (state[1] == layout::VERSION)
+    state.len() == layout::LENGTH && (state[0] == layout::TAG) & (state[1] == layout::VERSION)
 }
 
 // Whether each voice's fields but its wait are in range, in a sound RAM whose last unit is last.
@@ -64,10 +61,7 @@ fn voices(state: &[u16], last: u16) -> bool
     requires { length state.now ≡ state_length }
     ensures { result ≡ (every is_row (parts_of state.now).rows && every_ok ((last + 1) * 8) (state_of state.now).voices 24) }
 {
-    if !fields(state, last) {
-        return false;
-    }
-    waits(state)
+    fields(state, last) && waits(state)
 }
 
 // The number of a unit's first halfword, in a sound RAM whose last unit is last.
@@ -100,10 +94,7 @@ fn ranges(state: &[u16], size: u32, last: u16) -> bool
     requires { (is_tagged state.now ≡ true) × (size ≡ (state_of state.now).choices.size) × (size_ok size ≡ true) × ((last + 1) * 8 ≡ size) }
     ensures { result ≡ is_state state.now }
 {
-    if !rest(state, size, last) {
-        return false;
-    }
-    voices(state, last)
+    rest(state, size, last) && voices(state, last)
 }
 
 // Whether a state stands in a buffer with its tag, every field within its range.
@@ -112,11 +103,9 @@ pub fn check(state: &[u16]) -> bool
     ensures { result ≡ is_state state.now }
 {
     let size = layout::size(state);
-    if size == 0x80000 {
-        return ranges(state, size, 0xFFFF);
+    match size {
+        0x80000 => ranges(state, size, 0xFFFF),
+        0x10000 => ranges(state, size, 0x1FFF),
+        _ => false,
     }
-    if size == 0x10000 {
-        return ranges(state, size, 0x1FFF);
-    }
-    false
 }

@@ -21,7 +21,7 @@ fn end_flags(state: &[u16], first: usize, count: usize) -> u16
 {
     let mut flags = 0u16;
     for k in 0..count {
-        flags = flags + end_flag(state[layout::ENDED + (first + k)], k);
+        flags += end_flag(state[layout::ENDED + (first + k)], k);
     }
     flags
 }
@@ -30,10 +30,7 @@ fn end_flags(state: &[u16], first: usize, count: usize) -> u16
 fn weight(set: bool, w: u16) -> u16
     ensures { (result ≡ cond set w 0) × (result ≤ w) }
 {
-    if set {
-        return w;
-    }
-    0
+    if set { w } else { 0 }
 }
 
 // Whether the capture's place is at or above 200h. It stands as a number of halfwords.
@@ -84,20 +81,12 @@ pub fn read(state: &[u16], offset: u32) -> u16
     if (offset < 0x180) & (offset % 16 == 0xE) {
         return repeat(state, n);
     }
-    if offset == 0x19C {
-        return end_flags(state, 0, 16);
+    match offset {
+        0x19C => end_flags(state, 0, 16),
+        0x19E => end_flags(state, 16, 8),
+        0x1AE => status(state),
+        0x1B8 => doubled(state, 0x180),
+        0x1BA => doubled(state, 0x182),
+        _ => layout::register(state, offset as usize),
     }
-    if offset == 0x19E {
-        return end_flags(state, 16, 8);
-    }
-    if offset == 0x1AE {
-        return status(state);
-    }
-    if offset == 0x1B8 {
-        return doubled(state, 0x180);
-    }
-    if offset == 0x1BA {
-        return doubled(state, 0x182);
-    }
-    layout::register(state, offset as usize)
 }

@@ -41,8 +41,7 @@ fn release(state: &mut [u16], n: usize)
     ensures { Holds state.new (key_voice false (state_of state.old) n) }
 {
     let e = layout::envelope(state, n);
-    let phase = e.phase;
-    if !voice::goes_off(phase) {
+    if !voice::goes_off(e.phase) {
         return;
     }
     let low = of_voice(state, n, 8);
@@ -117,9 +116,7 @@ fn stop(state: &mut [u16], n: usize)
     requires { (n < 24) × Formed state.old }
     ensures { Holds state.new (stop_voice (state_of state.old) n) }
 {
-    let f = Voice::fresh();
-    let e = f.envelope;
-    layout::put_envelope(state, n, e);
+    layout::put_envelope(state, n, Voice::fresh().envelope);
 }
 
 fn stop_all(state: &mut [u16])
@@ -140,9 +137,8 @@ fn set_control(state: &mut [u16], old: u16, value: u16)
     layout::put_noise(state, noise::write(n, old, value));
     let c = layout::control(state);
     let control = Control {
-        applied: c.applied,
         latch: c.latch & (value / 0x40 % 2 == 1),
-        doubt: c.doubt,
+        ..c
     };
     layout::put_control(state, control);
     if value / 0x8000 % 2 == 1 {
@@ -157,10 +153,9 @@ fn effect(state: &mut [u16], offset: u32, old: u16, value: u16)
     ensures { Holds state.new (effect_of (state_of state.old) offset old value) }
 {
     if offset < 0x180 {
-        if offset % 16 != 0xE {
-            return;
+        if offset % 16 == 0xE {
+            set_repeat(state, (offset / 16) as usize, value);
         }
-        set_repeat(state, (offset / 16) as usize, value);
         return;
     }
     if (0x188 <= offset) & (offset <= 0x18A) {
@@ -171,19 +166,17 @@ fn effect(state: &mut [u16], offset: u32, old: u16, value: u16)
         key_off(state, offset - 0x18C, value);
         return;
     }
-    if offset == 0x1A2 {
-        let a = soundram::address_of(layout::size(state), UnitAddress(value));
-        layout::put_place(state, a);
-        return;
-    }
-    if offset == 0x1A6 {
-        let a = soundram::address_of(layout::size(state), UnitAddress(value));
-        layout::put_transfer(state, a);
-        return;
-    }
-    if offset == 0x1AA {
-        set_control(state, old, value);
-        return;
+    match offset {
+        0x1A2 => {
+            let a = soundram::address_of(layout::size(state), UnitAddress(value));
+            layout::put_place(state, a);
+        }
+        0x1A6 => {
+            let a = soundram::address_of(layout::size(state), UnitAddress(value));
+            layout::put_transfer(state, a);
+        }
+        0x1AA => set_control(state, old, value),
+        _ => {}
     }
 }
 

@@ -101,10 +101,15 @@ fn mix(regs: &[u16; 256], total: i32, held: i16, cd: i32, main: usize) -> i16
 fn mixed(regs: &[u16; 256], held: Stereo<i16>, sums: Sums, left: i16, right: i16) -> Stereo<i16>
     ensures { result ≡ pair_of regs.now held sums left right }
 {
-    let dry = sums.dry;
     Stereo {
-        left: mix(regs, dry.left, held.left, cd(regs, 0x1B0, left), 0x180),
-        right: mix(regs, dry.right, held.right, cd(regs, 0x1B2, right), 0x182),
+        left: mix(regs, sums.dry.left, held.left, cd(regs, 0x1B0, left), 0x180),
+        right: mix(
+            regs,
+            sums.dry.right,
+            held.right,
+            cd(regs, 0x1B2, right),
+            0x182,
+        ),
     }
 }
 
@@ -138,11 +143,10 @@ fn entering(regs: &[u16; 256], rightward: bool, sums: Sums, left: i16, right: i1
     requires { SumsIn 24 sums }
     ensures { result ≡ entering_of regs.now rightward sums left right }
 {
-    let wet = sums.wet;
     if rightward {
-        return input(regs, wet.right, cd(regs, 0x1B2, right));
+        return input(regs, sums.wet.right, cd(regs, 0x1B2, right));
     }
-    input(regs, wet.left, cd(regs, 0x1B0, left))
+    input(regs, sums.wet.left, cd(regs, 0x1B0, left))
 }
 
 fn place_after(size: u32, base: u32, right: bool, place: u32) -> u32
@@ -162,15 +166,9 @@ fn hold(right: bool, held: Stereo<i16>, out: i16) -> Stereo<i16>
     ensures { result ≡ held_of right held out }
 {
     if right {
-        return Stereo {
-            left: held.left,
-            right: out,
-        };
+        return Stereo { right: out, ..held };
     }
-    Stereo {
-        left: out,
-        right: held.right,
-    }
+    Stereo { left: out, ..held }
 }
 
 fn after(size: u32, base: u32, r: Reverb, out: i16) -> Reverb
@@ -241,17 +239,18 @@ fn close(
         regs, size, r.reverb, sums, left, right, ram, marks, captured,
     );
     let pair = mixed(regs, r.reverb.held, sums, left, right);
-    let noise = n;
-    let reverb = t.reverb;
-    let watch = t.watch;
     let rest = Rest {
-        noise,
+        noise: n,
         applied: registers::at(regs, 0x1AA) % 0x40,
         capture: capture::next(r.capture),
-        reverb,
-        tick: std::num::wrapping_add_u32(r.tick, 1),
+        reverb: t.reverb,
+        tick: r.tick.wrapping_add(1),
     };
-    Closed { rest, pair, watch }
+    Closed {
+        rest,
+        pair,
+        watch: t.watch,
+    }
 }
 
 // Tick k if it reported, otherwise the one that did before it.
@@ -268,20 +267,15 @@ fn reported(here: bool, k: usize, before: usize) -> usize
 fn cd_at(cd: &[i16], i: usize) -> i16
     ensures { result ≡ slice_index_or cd.now i (pos 0) }
 {
-    if i < cd.len() {
-        return cd[i];
-    }
-    0
+    cd.get(i).copied().unwrap_or(0)
 }
 
 fn put_pair(out: &mut [i16], i: usize, pair: Stereo<i16>)
     requires { i + 1 < length out.old }
     ensures { out.new ≡ slice_set (slice_set out.old i pair.left) (i + 1) pair.right }
 {
-    let left = pair.left;
-    let right = pair.right;
-    out[i] = left;
-    out[i + 1] = right;
+    out[i] = pair.left;
+    out[i + 1] = pair.right;
 }
 
 // Tick k ends: its pair goes to the buffer, and the next tick's noise is made.
@@ -307,16 +301,12 @@ pub fn finish(
     let c = close(
         regs, size, g.rest, g.noise, volumes, amplitudes, ram, marks, left, right, w,
     );
-    let pair = c.pair;
-    let rest = c.rest;
-    let watch = c.watch;
-    put_pair(out, i, pair);
-    let noise = noise::tick(rest.noise, registers::at(regs, 0x1AA));
+    put_pair(out, i, c.pair);
     Going {
-        rest,
-        noise,
-        watch,
-        irq: reported(watch.latch & !g.watch.latch, k, g.irq),
-        doubt: reported(watch.doubt & !g.watch.doubt, k, g.doubt),
+        rest: c.rest,
+        noise: noise::tick(c.rest.noise, registers::at(regs, 0x1AA)),
+        watch: c.watch,
+        irq: reported(c.watch.latch & !g.watch.latch, k, g.irq),
+        doubt: reported(c.watch.doubt & !g.watch.doubt, k, g.doubt),
     }
 }

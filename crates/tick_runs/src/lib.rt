@@ -28,7 +28,7 @@ struct AllPlayed {
     watch: Watch,
 }
 
-// Which tick raised the interrupt and which the doubt; the number of ticks if none did.
+// Which tick raised the interrupt and which the doubt; the number of ticks if none did, as the calls for C answer.
 #[derive(Clone, Copy)]
 pub struct Reports {
     pub irq: usize,

@@ -1,14 +1,9 @@
-use borrow.Author.Rules.{rules}
-use mathlib.Core.Path.{refl}
-use Rattle.layout.proofs.Read.{filled_none, filled_more}
-use Rattle.layout.proofs.Made.{none, cleared}
+use mathlib.Core.Path.{ap, ◌∙◌}
+use Prim.Native.Nat.{ℕ}
+use lib.ListN.{replicate}
+use Rattle.layout.specs.Stores.{zeros_of}
 use Rattle.layout.proofs.clear.Goals as goal
 
-pub loop-i-init : goal.loop-i-init
-loop-i-init c = (search rules, search rules, filled_none none)
-
-pub loop-i-preserved : goal.loop-i-preserved
-loop-i-preserved c = let v = c.loop-i.invariant in (search rules, search rules, filled_more none _ _ (search rules) v.2 refl)
-
 pub returns : goal.returns
-returns c = let v = c.loop-i.invariant in cleared _ _ v.1 v.2 v.0 c.loop-i-test.false
+unfolding zeros_of
+returns c = c.fill.ensures.after (λ y h. h) ∙ ap (λ (n : ℕ). replicate n 0) c.requires

@@ -1,8 +1,9 @@
+use native.Mathlib.Omega.{arith}
 use Rattle.layout.proofs.Read.{flags_byte, playing_is}
 use Rattle.layout.proofs.playing.Goals as goal
 
-pub byte-requires : goal.byte-requires
-byte-requires c = search flags_byte
+pub overflow_cast-result : goal.overflow_cast-result
+overflow_cast-result c = let l = flags_byte _ _ c.requires.0 c.requires.1 in record { fits = omega arith }
 
 pub returns : goal.returns
 returns c = search playing_is

@@ -8,10 +8,10 @@ pub size-size-requires : goal.size-size-requires
 size-size-requires c = search (tagged_length, rules)
 
 pub ranges-requires : goal.ranges-requires
-ranges-requires c = let e = c.if-size-eq524288.true in (c.requires, c.size-size.ensures, size_large _ e, omega arith)
+ranges-requires c = let e = c.in-524288.is in (c.requires, c.size-size.ensures, size_large _ e, omega arith)
 
-pub ranges-requires-then-size-eq65536 : goal.ranges-requires-then-size-eq65536
-ranges-requires-then-size-eq65536 c = let e = c.if-size-eq65536.true in (c.requires, c.size-size.ensures, size_small _ e, omega arith)
+pub ranges-requires-in-65536 : goal.ranges-requires-in-65536
+ranges-requires-in-65536 c = let e = c.in-65536.is in (c.requires, c.size-size.ensures, size_small _ e, omega arith)
 
-pub returns : goal.returns
-returns c = size_other _ c.size-size.ensures c.if-size-eq524288.false c.if-size-eq65536.false
+pub returns-in_default : goal.returns-in_default
+returns-in_default c = search (size_other, rules)

@@ -1,5 +1,3 @@
-use mathlib.Core.Path.{ap}
-use mathlib.Core.Bool.{not}
 use Rattle.layout.proofs.Laws.{tagged_length}
 use Rattle.range_check.proofs.Tests.{rest_no, rest_yes}
 use borrow.Author.Rules.{rules}
@@ -8,11 +6,11 @@ use Rattle.range_check.proofs.ranges.Goals as goal
 pub rest-requires : goal.rest-requires
 rest-requires c = (tagged_length _ c.requires.0, c.requires.1, c.requires.2, c.requires.3)
 
-pub returns-then-not-rest : goal.returns-then-not-rest
-returns-then-not-rest c = rest_no _ _ c.rest.result c.requires.0 c.requires.3 c.rest.ensures (ap not c.if-not-rest.true)
-
 pub voices-requires : goal.voices-requires
 voices-requires c = search (tagged_length, rules)
 
-pub returns : goal.returns
-returns c = rest_yes _ _ c.rest.result c.requires.0 c.requires.3 c.rest.ensures (ap not c.if-not-rest.false) c.voices.ensures
+pub returns-then-rest : goal.returns-then-rest
+returns-then-rest c = rest_yes _ _ c.rest.result c.requires.0 c.requires.3 c.rest.ensures c.if-rest.true c.voices.ensures
+
+pub returns-else-rest : goal.returns-else-rest
+returns-else-rest c = rest_no _ _ c.rest.result c.requires.0 c.requires.3 c.rest.ensures c.if-rest.false

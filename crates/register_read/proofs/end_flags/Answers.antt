@@ -6,16 +6,16 @@ use Rattle.register_read.proofs.Values.{ended_bit, flags_none, flags_more, flags
 use Rattle.register_read.proofs.end_flags.Goals as goal
 
 pub loop-k-init : goal.loop-k-init
-loop-k-init c = (omega arith, flags_none _ _)
+loop-k-init c = flags_none _ _
 
 pub end_flag-flags-requires : goal.end_flag-flags-requires
 end_flag-flags-requires c = let h = c.loop-k-test.true in (ended_bit _ _ c.requires.2 (omega arith), omega arith)
 
 pub overflow_add-flags : goal.overflow_add-flags
-overflow_add-flags c = let h = c.loop-k-test.true in let f = flags_fit _ _ _ (omega arith) c.loop-k.invariant.1 c.end_flag-flags.ensures (omega arith) in search (f, rules)
+overflow_add-flags c = let h = c.loop-k-test.true in let f = flags_fit _ _ _ (omega arith) c.loop-k.invariant c.end_flag-flags.ensures (omega arith) in search (f, rules)
 
 pub loop-k-preserved : goal.loop-k-preserved
-loop-k-preserved c = let h = c.loop-k-test.true in (search rules, flags_more _ _ _ (omega arith) c.loop-k.invariant.1 c.end_flag-flags.ensures)
+loop-k-preserved c = let h = c.loop-k-test.true in flags_more _ _ _ (omega arith) c.loop-k.invariant c.end_flag-flags.ensures
 
 pub returns : goal.returns
-returns c = let v = c.loop-k.invariant in to_end (end_flags _ _) _ _ v.1 v.0 c.loop-k-test.false
+returns c = to_end (end_flags _ _) _ _ c.loop-k.invariant (search rules) c.loop-k-test.false

@@ -1,11 +1,7 @@
 use mathlib.Core.Path.{◌≡◌}
-use Prim.Native.Nat.{◌-◌, ◌≤◌}
 use Rattle.chip.specs.Registers.{end_flags}
 use Rattle.layout.specs.Layout.{state_of}
 use Rattle.register_read.proofs.end_flags.Given as goal
 
 abbrev pub invariant-loop-k : goal.invariant-loop-k
-invariant-loop-k l = (l.k ≤ l.count) × (l.flags ≡ end_flags (state_of l.state).voices l.first l.k)
-
-abbrev pub decreases-loop-k : goal.decreases-loop-k
-decreases-loop-k l = l.count - l.k
+invariant-loop-k l = l.flags ≡ end_flags (state_of l.state).voices l.first l.k

@@ -16,23 +16,23 @@ repeat-requires c = let h = of_voice_lem 0xE c.args.offset c.if-offset-2.true in
 pub returns-then-offset-2 : goal.returns-then-offset-2
 returns-then-offset-2 c = search read_repeat
 
-pub returns-then-offset-eq412 : goal.returns-then-offset-eq412
-returns-then-offset-eq412 c = search read_ends
+pub returns-in-412 : goal.returns-in-412
+returns-in-412 c = search read_ends
 
-pub returns-then-offset-eq414 : goal.returns-then-offset-eq414
-returns-then-offset-eq414 c = search read_more_ends
+pub returns-in-414 : goal.returns-in-414
+returns-in-414 c = search read_more_ends
 
-pub returns-then-offset-eq430 : goal.returns-then-offset-eq430
-returns-then-offset-eq430 c = search read_status
+pub returns-in-430 : goal.returns-in-430
+returns-in-430 c = search read_status
 
-pub returns-then-offset-eq440 : goal.returns-then-offset-eq440
-returns-then-offset-eq440 c = search read_left
+pub returns-in-440 : goal.returns-in-440
+returns-in-440 c = search read_left
 
-pub returns-then-offset-eq442 : goal.returns-then-offset-eq442
-returns-then-offset-eq442 c = search read_right
+pub returns-in-442 : goal.returns-in-442
+returns-in-442 c = search read_right
 
 pub register-requires : goal.register-requires
 register-requires c = search (listed_below, rules)
 
-pub returns : goal.returns
-returns c = search read_kept
+pub returns-in_default : goal.returns-in_default
+returns-in_default c = search read_kept

@@ -3,11 +3,11 @@ use Rattle.register_write.proofs.Work.{even_address, takes_voice, takes_repeat, 
 use borrow.Author.Rules.{rules}
 use Rattle.register_write.proofs.effect.Goals as goal
 
-pub returns-then-offset-ne14 : goal.returns-then-offset-ne14
-returns-then-offset-ne14 c = search takes_voice
+pub returns-else-offset-eq14 : goal.returns-else-offset-eq14
+returns-else-offset-eq14 c = search takes_voice
 
-pub returns-then-offset-lt384 : goal.returns-then-offset-lt384
-returns-then-offset-lt384 c = search takes_repeat
+pub returns-then-offset-eq14 : goal.returns-then-offset-eq14
+returns-then-offset-eq14 c = search takes_repeat
 
 pub overflow_sub-offset : goal.overflow_sub-offset
 overflow_sub-offset c = from_low 0x188 0x18A _ c.if-offset.true
@@ -24,17 +24,17 @@ returns-then-offset-2 c = search takes_off
 pub put_place-requires : goal.put_place-requires
 put_place-requires c = (search rules, even_address _ c.requires.1 c.size.ensures c.address_of-a.ensures)
 
-pub returns-then-offset-eq418 : goal.returns-then-offset-eq418
-returns-then-offset-eq418 c = search takes_base
+pub returns-in-418 : goal.returns-in-418
+returns-in-418 c = search takes_base
 
 pub put_transfer-requires : goal.put_transfer-requires
-put_transfer-requires c = (search rules, even_address _ c.requires.1 c.size-then-offset-eq422.ensures c.address_of-a-then-offset-eq422.ensures)
+put_transfer-requires c = (search rules, even_address _ c.requires.1 c.size-in-422.ensures c.address_of-a-in-422.ensures)
 
-pub returns-then-offset-eq422 : goal.returns-then-offset-eq422
-returns-then-offset-eq422 c = search takes_transfer
+pub returns-in-422 : goal.returns-in-422
+returns-in-422 c = search takes_transfer
 
-pub returns-then-offset-eq426 : goal.returns-then-offset-eq426
-returns-then-offset-eq426 c = search takes_control
+pub returns-in-426 : goal.returns-in-426
+returns-in-426 c = search takes_control
 
-pub returns : goal.returns
-returns c = search takes_none
+pub returns-in_default : goal.returns-in_default
+returns-in_default c = search takes_none

@@ -1,5 +1,4 @@
 use mathlib.Core.Path.{refl}
-use native.Mathlib.Omega.{arith}
 use borrow.Author.Rules.{rules}
 use Rattle.layout.specs.Layout.{state_of}
 use Rattle.layout.proofs.Laws.{same_size}
@@ -8,19 +7,18 @@ use Rattle.register_write.proofs.Work.{still_sized, bits_none_in, bits_more_in, 
 use Rattle.register_write.proofs.on_bits.Goals as goal
 
 pub loop-k-init : goal.loop-k-init
-loop-k-init c = (omega arith, search bits_none_in)
+loop-k-init c = search bits_none_in
 
 pub key-requires : goal.key-requires
-key-requires c = (search rules, search rules, still_sized _ c.requires.3 c.loop-k.invariant.1 refl)
+key-requires c = (search rules, search rules, still_sized _ c.requires.3 c.loop-k.invariant refl)
 
 pub loop-k-preserved : goal.loop-k-preserved
-loop-k-preserved c = (search rules, search bits_more_in)
+loop-k-preserved c = search bits_more_in
 
 pub shape_of-state : goal.shape_of-state
 shape_of-state c = search same_size
 
 pub returns : goal.returns
 returns c =
-    let v = c.loop-k.invariant in
     let a = c.args in
-    holds_end (key_bits a.on (state_of a.state.now) a.value a.first) _ _ v.1 v.0 c.loop-k-test.false
+    holds_end (key_bits a.on (state_of a.state.now) a.value a.first) _ _ c.loop-k.invariant (search rules) c.loop-k-test.false

@@ -1,4 +1,3 @@
-use native.Mathlib.Omega.{arith}
 use borrow.Author.Rules.{rules}
 use Rattle.layout.proofs.Laws.{same_size}
 use Rattle.register_write.specs.Keys.{stop_voices}
@@ -6,13 +5,13 @@ use Rattle.register_write.proofs.Work.{stop_none_in, stop_more_in, holds_end}
 use Rattle.register_write.proofs.stop_all.Goals as goal
 
 pub loop-n-init : goal.loop-n-init
-loop-n-init c = (omega arith, search stop_none_in)
+loop-n-init c = search stop_none_in
 
 pub loop-n-preserved : goal.loop-n-preserved
-loop-n-preserved c = (search rules, search stop_more_in)
+loop-n-preserved c = search stop_more_in
 
 pub shape_of-state : goal.shape_of-state
 shape_of-state c = search same_size
 
 pub returns : goal.returns
-returns c = let v = c.loop-n.invariant in holds_end (stop_voices _) _ _ v.1 v.0 c.loop-n-test.false
+returns c = holds_end (stop_voices _) _ _ c.loop-n.invariant (search rules) c.loop-n-test.false

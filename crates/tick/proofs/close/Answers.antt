@@ -1,4 +1,4 @@
-use Rattle.std.proofs.Common.{to_z-of_z}
+use Rattle.std.proofs.Common.{refl, to_z-of_z}
 use Rattle.soundram.proofs.Programs.{lent_after}
 use Rattle.tick.proofs.Parts.{close_does}
 use Rattle.tick.proofs.close.Goals as goal
@@ -19,4 +19,4 @@ pub returns : goal.returns
 returns c =
     let l = to_z-of_z c.ranges.left in
     let r = to_z-of_z c.ranges.right in
-    close_does _ _ _ _ _ _ _ c.mix-sums.ensures.0 l r c.capture-captured.ensures l r c.turn-t.ensures l r c.mixed-pair.ensures c.at.ensures c.next.ensures c.wrapping_add_u32.ensures.value
+    close_does _ _ _ _ _ _ _ c.mix-sums.ensures.0 l r c.capture-captured.ensures l r c.turn-t.ensures l r c.mixed-pair.ensures c.at.ensures c.next.ensures refl

@@ -13,4 +13,4 @@ shape_of-marks c =
 
 pub returns : goal.returns
 returns c =
-    finish_does _ _ _ _ _ _ _ _ (to_z-of_z {w = w16} (search rules) ∙ c.cd_at-left.ensures) (to_z-of_z {w = w16} (search rules) ∙ c.cd_at-right.ensures) c.close-c.ensures c.put_pair.ensures c.at.ensures c.tick-noise.ensures c.reported.ensures c.reported-2.ensures
+    finish_does _ _ _ _ _ _ _ _ (to_z-of_z {w = w16} (search rules) ∙ c.cd_at-left.ensures) (to_z-of_z {w = w16} (search rules) ∙ c.cd_at-right.ensures) c.close-c.ensures c.put_pair.ensures c.at.ensures c.tick.ensures c.reported.ensures c.reported-2.ensures

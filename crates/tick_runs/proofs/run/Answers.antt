@@ -1,6 +1,4 @@
-use borrow.Author.Rules.{rules}
 use mathlib.Core.Path.{refl, sym, ◌∙◌}
-use Prim.Native.Nat.{◌+◌, ◌^◌, ◌<◌}
 use native.Mathlib.Omega.{arith}
 use Rattle.tick_runs.proofs.Ticks.{running_none, running_all, running_more, running_end}
 use Rattle.tick_runs.proofs.run.Goals as goal
@@ -24,16 +22,6 @@ finish-g-requires c =
     let r = c.registers-regs.ensures in
     let s = c.size-size.ensures in
     (rw s p.lent, p.range.capture, rw (s, r) p.range.place, omega arith, c.volumes-volumes.ensures)
-
-pub overflow_step-k : goal.overflow_step-k
-overflow_step-k c =
-    let h = c.loop-k-test.true in
-    let b : c.loop-k.k + 1 < 2 ^ 64 = omega (arith, c.well_formed.1.1.1.1.0) in
-    search (rules, b)
-
-pub loop-k-smaller : goal.loop-k-smaller
-loop-k-smaller c =
-    omega (arith, c.loop-k-test.true)
 
 pub loop-k-preserved : goal.loop-k-preserved
 loop-k-preserved c =
