@@ -10,7 +10,7 @@ use little_endian::{half_at, word_at};
 pub const MOST_ENTRIES: usize = 1024;
 
 // The kind stays the file's number, since `read_entry` gives an entry that is good or not.
-#[derive(Clone, Copy, Debug, PartialEq, Eq)]
+#[derive(Clone, Copy)]
 pub struct Entry {
     pub kind: u16,
     pub offset: u32,
@@ -52,7 +52,7 @@ impl From<Damage> for Refusal {
 }
 
 // What a lookup finds: in which bank, the sound's own entry, and where its bytes are.
-#[derive(Clone, Copy, Debug, PartialEq, Eq)]
+#[derive(Clone, Copy)]
 pub struct Found {
     pub house: bool,
     pub entry: u32,

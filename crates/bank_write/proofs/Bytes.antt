@@ -3,19 +3,18 @@ use mathlib.Core.Path.{◌≡◌, refl, sym, ap, ◌∙◌}
 use mathlib.Core.Bool.{Bool, true, false, ◌&&◌}
 use mathlib.Core.List.{List, ◌++◌}
 use Prim.Native.Nat.{ℕ, ◌+◌, ◌≤◌, ◌<◌}
+use native.Mathlib.Numerals.{add-one}
 use native.Mathlib.Omega.{arith}
 use borrow.Author.Tests.{leb-true, eqb-true, le-leb, lt-leb}
 use lib.Dec.{eqb, leb}
-use lib.ListN.{length, length-append}
+use lib.ListN.{length, get_or, set, take, length-append}
+use lib.Seq.{length-take-le, take-suc, take_all}
 use Rattle.fixed.proofs.Bools.{and_first, and_rest}
 use Rattle.little_endian.specs.Bytes.{half_bytes, word_bytes, Put}
-use Rattle.little_endian.proofs.Puts.{put_then, put_at_lem, put_first, each_length}
+use Rattle.little_endian.proofs.Puts.{put_one_lem, put_then, put_at_lem, put_first, each_length}
 use Rattle.little_endian.proofs.Stands.{Has, all, first, rest, part, half_read, word_read, each_read}
 use Rattle.bank.specs.declared.Entry.{Entry}
 use Rattle.std.specs.Prelude.{Ok, Err}
-use Rattle.std.proofs.lemmas.Slice.{take-put_mid, drop-put_mid, put_mid-paste}
-use Rattle.std.proofs.lemmas.List.Edits.{length-paste}
-use borrow.Rule.Slice.PartMut.{put_mid}
 use Rattle.bank.specs.Bank.{count_of, place_of, entry_at, is_entry, is_entry_at, damage_below, damage_of, is_nowhere, is_good}
 use Rattle.bank.proofs.Laws.{is_header_lem, below_more, below_found, below_same}
 use Rattle.bank_write.specs.declared.Refusal.TheVariants.{Damaged, ShortBuffer}
@@ -55,17 +54,16 @@ module _ (ls : Lists) (size n : ℕ) {count : ℕ} (k : count ≡ entries_in ls)
   pub entries_all : damage_below (is_entry_in ls size) n ≡ Ok tt → n ≤ count → count ≤ n → true ≡ is_nowhere (damage_below (is_entry_in ls size) (entries_in ls))
   entries_all d l h = let q : entries_in ls ≡ n = omega (arith, k) in rw (q, d)
 
--- ---- the data
+-- ---- the data, byte by byte
 
--- zs is what the part holds after the copy
-pub data_put : (xs ys zs : List ℕ) (at k : ℕ) → zs ≡ ys → k ≡ length ys → at + length ys ≤ length xs → Put ys xs at (put_mid at k xs zs)
-data_put xs ys zs at k e n h =
-    rw (e, n)
-    record {
-      is = take-put_mid at (length ys) xs ys (at + length ys) refl (omega arith);
-      past = drop-put_mid at (length ys) xs ys (at + length ys) (omega arith) (omega arith) refl;
-      size = ap length (put_mid-paste at (length ys) xs ys ys (length ys) refl refl refl) ∙ length-paste xs at ys (length ys) h (omega arith);
-    }
+pub data_more : (ys : List ℕ) (n : ℕ) {xs xs' : List ℕ} {at : ℕ} → Put (take n ys) xs at xs' → n < length ys → at + n < length xs'
+    → Put (take (n + 1) ys) xs at (set xs' (at + n) (get_or ys n 0))
+data_more ys n {xs} {xs'} {at} p h g =
+    let l = length-take-le n ys (omega arith) in
+    rw (add-one, take-suc ys n 0 h) (put_at_lem p (put_one_lem xs' (at + n) (get_or ys n 0) g) (rw l))
+
+pub data_end : (ys : List ℕ) (n : ℕ) {xs xs' : List ℕ} {at : ℕ} → Put (take n ys) xs at xs' → length ys ≤ n → Put ys xs at xs'
+data_end ys n p h = rw (take_all n ys h) at p
 
 -- ---- a bank
 

@@ -108,11 +108,14 @@ fn put_entry(out: &mut [u8], at: usize, e: Entry)
     put_word(out, at + 6, e.count);
 }
 
+// Not by `copy_from_slice`, which calls `memmove`: C's archive needs `memcpy` and `memset` alone.
 fn put_data(out: &mut [u8], at: usize, data: &[u8])
     requires { at + length «data».now ≤ length out.old }
     ensures { Put «data».now out.old at out.new }
 {
-    out[at..at + data.len()].copy_from_slice(data);
+    for (n, byte) in data.iter().enumerate() {
+        out[at + n] = *byte;
+    }
 }
 
 // Writes the count, the entries and the data, and answers their length. A refusal leaves the buffer as it was.
