@@ -6,18 +6,15 @@ use Prim.Native.Nat.{ℕ, ◌+◌, ◌-◌, ◌*◌, ◌%◌, ◌≤◌, ◌<◌
 use native.Mathlib.Nat.{div-one}
 use native.Mathlib.Numerals.{add-one}
 use native.Mathlib.Omega.{arith}
-use borrow.Author.Tests.{eqb-true, lt-ltb, le-ltb, le-leb, lt-leb, not-true, not-false}
-use lib.Dec.{eqb, leb, ltb}
+use borrow.Author.Tests.{eqb-true, lt-ltb, le-ltb, not-true, not-false}
+use lib.Dec.{eqb, ltb}
 use lib.ListN.{length, drop, get_or, length-drop}
 use lib.Seq.{length-take-le, get_or-take, get_or-drop, ext_get_or}
-use lib.IntN.{ℤ, pos, negsuc, nat_abs, ◌-ℤ◌}
-use lib.Signed.{lt_z}
+use lib.IntN.{ℤ, pos}
 use Rattle.std.specs.Prelude.{Option, Some, None, Result, Ok, Err, is_some}
 use Rattle.fixed.specs.Bits.{bit, field}
-use Rattle.fixed.specs.Range.{up, dn, In}
 use Rattle.fixed.specs.Tests.{all_below, first_from, first_below}
 use Rattle.fixed.proofs.Bools.{first_begin, first_more, first_fails, first_none, all_first, all_and}
-use Rattle.fixed.proofs.Parts.{sub_parts, within, lt_yes, lt_no}
 use Rattle.adpcm.specs.declared.History.{History}
 use Rattle.adpcm.specs.Adpcm.{block_of}
 use Rattle.adpcm.proofs.Laws.{after_last}
@@ -26,31 +23,6 @@ use Rattle.encoder_check.specs.declared.NotWhole.{NotWhole}
 use Rattle.encoder_check.specs.Check.{blocks_of, groups_of, bytes_of, history_of, decoded_at, are_as_many, is_within, is_near, are_near, is_flag_right, is_filter_known, is_yes, pairs_of, is_right, first_fault, found, broken_at, unpaired_at, fault_of, is_sized, verdict_of, answer_of}
 
 -- ---- a block
-
-abs_parts : (z : ℤ) → nat_abs z ≡ up z + dn z
-abs_parts (pos n) = omega arith
-abs_parts (negsuc n) = omega arith
-
-abs_most : (e : ℕ) (z : ℤ) → In e e z → nat_abs z ≤ e
-abs_most e (pos n) i = i.top
-abs_most e (negsuc n) i = i.low
-
--- d, m and n are what the code has
-pub within_by : (e : ℕ) (x y : ℤ) {d m n : ℤ} → d ≡ x -ℤ y → m ≡ pos 0 -ℤ pos e → n ≡ pos e → (not (lt_z d m) && not (lt_z n d)) ≡ is_within e x y
-unfolding is_within
-within_by e x y {d} {m} {n} f g h = rw (h, ← f, g) (by (lt_z d (pos 0 -ℤ pos e)) (lt_z (pos e) d) refl refl)
-  where
-    by : (a b : Bool) → lt_z d (pos 0 -ℤ pos e) ≡ a → lt_z (pos e) d ≡ b → (not a && not b) ≡ leb (nat_abs d) e
-    by true b p q =
-        let s = sub_parts (pos 0) (pos e) in
-        let l = lt_yes d (pos 0 -ℤ pos e) p in
-        sym (lt-leb (nat_abs d) e (omega (arith, abs_parts d)))
-    by false true p q = let l = lt_yes (pos e) d q in sym (lt-leb (nat_abs d) e (omega (arith, abs_parts d)))
-    by false false p q =
-        let s = sub_parts (pos 0) (pos e) in
-        let k = lt_no d (pos 0 -ℤ pos e) p in
-        let l = lt_no (pos e) d q in
-        sym (le-leb (nat_abs d) e (abs_most e d (within d (omega arith) (omega arith))))
 
 -- x and y are the sample and its original as the code reads them
 pub near_by : (e : ℕ) (samples originals : List ℤ) (at j : ℕ) {x y : ℤ} {r b : Bool} → r ≡ is_within e x y → r ≡ b → x ≡ get_or samples j (pos 0) → y ≡ get_or originals (at + j) (pos 0)

@@ -28,9 +28,7 @@ pub struct NotWhole;
 fn is_within(largest: u16, x: i16, y: i16) -> bool
     ensures { result ≡ is_within largest x y }
 {
-    let d = x as i32 - y as i32;
-    let e = largest as i32;
-    !(d < -e) & !(e < d)
+    x.abs_diff(y) <= largest
 }
 
 // The first of a block's samples that is too far from its original. The originals begin at `at`. A loop, since the closure of `position` is not told
