@@ -120,7 +120,8 @@ pub fn block_at(bytes: &[u8], at: usize) -> [u8; 16]
     array::from_fn(|i| bytes[at + i])
 }
 
-// The samples of a block, of which old and older are the two before it: two of each byte, low nibble first.
+// The samples of a block, of which old and older are the two before it: two of each byte, low nibble first. They are no `History`, since a voice has
+// them in a row of samples.
 pub fn decode(bytes: [u8; 16], old: i16, older: i16) -> [i16; 28]
     ensures { result ≡ block_of bytes old older }
 {

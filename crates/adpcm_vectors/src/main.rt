@@ -16,7 +16,8 @@ fn print_block(rt: &impl Print, samples: [i16; 28]) -> io::Result<()> {
     Ok(())
 }
 
-// Fills the bytes from a file. Where the file ends early, the bytes that are left stay as they were.
+// Fills the bytes from a file. Where the file ends early, the bytes that are left stay as they were. Each program has its own: a crate for these
+// lines would be no plainer.
 fn read_full(file: &mut impl Read, bytes: &mut [u8]) -> io::Result<()> {
     match file.read_exact(bytes) {
         Err(e) if e.kind() == ErrorKind::UnexpectedEof => Ok(()),

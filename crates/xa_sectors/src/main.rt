@@ -37,7 +37,8 @@ fn print_histories(rt: &impl Print, h: Histories) -> io::Result<()> {
 
 // ---- the sectors of an outside decoder
 
-// Fills the bytes from a file. Where the file ends early, the bytes that are left stay as they were.
+// Fills the bytes from a file. Where the file ends early, the bytes that are left stay as they were. Each program has its own: a crate for these
+// lines would be no plainer.
 fn read_full(file: &mut impl Read, bytes: &mut [u8]) -> io::Result<()> {
     match file.read_exact(bytes) {
         Err(e) if e.kind() == ErrorKind::UnexpectedEof => Ok(()),
