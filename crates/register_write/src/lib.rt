@@ -60,9 +60,9 @@ fn key(state: &mut [u16], set: bool, on: bool, n: usize)
     }
     if on {
         start(state, n);
-        return;
+    } else {
+        release(state, n);
     }
-    release(state, n);
 }
 
 // Keys those of count voices, from first on, whose bits are set in value.
@@ -82,19 +82,18 @@ fn on_keys(state: &mut [u16], on: bool, second: u32, value: u16)
 {
     if second == 0 {
         on_bits(state, on, value, 0, 16);
-        return;
+    } else {
+        on_bits(state, on, value, 16, 8);
     }
-    on_bits(state, on, value, 16, 8);
 }
 
 fn key_on(state: &mut [u16], second: u32, value: u16)
     requires { Formed state.old × Sized (state_of state.old).choices.size }
     ensures { Holds state.new (key_on (state_of state.old) second value) }
 {
-    if layout::register(state, 0x1AA) / 0x8000 % 2 != 1 {
-        return;
+    if layout::register(state, 0x1AA) / 0x8000 % 2 == 1 {
+        on_keys(state, true, second, value);
     }
-    on_keys(state, true, second, value);
 }
 
 fn key_off(state: &mut [u16], second: u32, value: u16)
@@ -141,10 +140,9 @@ fn set_control(state: &mut [u16], old: u16, value: u16)
         ..c
     };
     layout::put_control(state, control);
-    if value / 0x8000 % 2 == 1 {
-        return;
+    if value / 0x8000 % 2 != 1 {
+        stop_all(state);
     }
-    stop_all(state);
 }
 
 // What a write does besides keeping the value.

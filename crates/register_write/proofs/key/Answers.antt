@@ -7,5 +7,5 @@ returns-then-not-set c = search key_none
 pub returns-then-on : goal.returns-then-on
 returns-then-on c = search key_set
 
-pub returns : goal.returns
-returns c = search key_set
+pub returns-else-on : goal.returns-else-on
+returns-else-on c = search key_set
