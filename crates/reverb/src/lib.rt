@@ -40,20 +40,6 @@ fn remainder(n: u32, span: u32) -> u32
     if n < span { n } else { n % span }
 }
 
-// Where the displacement lies that is `back` bytes less than `bytes`.
-fn address(a: Area, bytes: u32, back: u32) -> ByteAddress
-    requires { AreaIn a × (bytes < 0x80000) × (back < 0x80000) }
-    ensures { (result ≡ address_at a (pos bytes -ℤ pos back)) × (result.0 < a.size) }
-{
-    let span = a.size - a.base;
-    let k = a.place - a.base + bytes;
-    if back <= k {
-        ByteAddress(a.base + remainder(k - back, span))
-    } else {
-        ByteAddress(a.base + (span - 1 - remainder(back - k - 1, span)))
-    }
-}
-
 // How far the side's register lies from the left one of a pair.
 pub fn side(right: bool) -> usize
     ensures { (result ≡ side_of right) × (result ≤ 2) }
@@ -72,6 +58,21 @@ fn who(right: bool) -> Reader
 }
 
 impl DelayLine {
+    // Where the displacement lies that is `back` bytes less than `bytes`.
+    fn address(self, bytes: u32, back: u32) -> ByteAddress
+        requires { (bytes < 0x80000) × (back < 0x80000) }
+        ensures { (result ≡ address_at self.area (pos bytes -ℤ pos back)) × (result.0 < self.area.size) }
+    {
+        let a = self.area;
+        let span = a.size - a.base;
+        let k = a.place - a.base + bytes;
+        if back <= k {
+            ByteAddress(a.base + remainder(k - back, span))
+        } else {
+            ByteAddress(a.base + (span - 1 - remainder(back - k - 1, span)))
+        }
+    }
+
     // The halfword where the displacement leads, less `back` bytes.
     pub fn fetch(self, ram: &[u8], marks: &[u8], bytes: u32, back: u32, w: Watch) -> Seen<i16>
         requires { Lent self.area.size ram.now marks.now × (bytes < 0x80000) × (back < 0x80000) }
@@ -83,7 +84,7 @@ impl DelayLine {
             marks,
             who(t.right),
             t.counted,
-            address(self.area, bytes, back),
+            self.address(bytes, back),
             w,
         );
         Seen {
@@ -98,13 +99,7 @@ impl DelayLine {
         ensures { Does (storing self.area self.turning (pos bytes) x) (mem_of ram.old marks.old w) tt (mem_of ram.new marks.new result) }
     {
         if self.turning.writes {
-            access::write(
-                ram,
-                marks,
-                address(self.area, bytes, 0),
-                fixed::to_bits(x),
-                w,
-            )
+            access::write(ram, marks, self.address(bytes, 0), fixed::to_bits(x), w)
         } else {
             w
         }

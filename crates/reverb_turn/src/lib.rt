@@ -27,7 +27,7 @@ fn volume(regs: &[u16; 256], offset: usize) -> i16
     fixed::to_signed(registers::at(regs, offset))
 }
 
-// A sum times it, and a sample times it.
+// A sum times it, and a sample times it. The sum of four combs needs the smaller range of the second: one function with both would have to be told the range.
 
 fn scaled(regs: &[u16; 256], x: i32, offset: usize) -> i32
     requires { In 0x20000 0x20000 x × (offset < 512) }

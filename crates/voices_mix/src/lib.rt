@@ -16,7 +16,8 @@ fn gate(on: bool, volume: i16) -> i16
     if on { volume } else { 0 }
 }
 
-// The volumes of all voices, which hold as long as the registers do: left, right, and left and right of those with reverb, 24 of each.
+// The volumes of all voices, which hold as long as the registers do: left, right, and left and right of those with reverb, 24 of each. One list, since the
+// definition `Volumes` is of one.
 pub fn volumes(regs: &[u16; 256]) -> [i16; 96]
     ensures { Volumes regs.now result }
 {

@@ -1,16 +1,10 @@
 use mathlib.Core.Path.{◌≡◌}
-use native.Mathlib.Omega.{arith}
 use borrow.Author.Rules.{rules}
 use mir.Val.{to_z, of_z}
 use mir.Syntax.{w16}
 use mir.Facts.{to_z-of_z}
-use Rattle.soundram.proofs.Programs.{lent_after}
 use Rattle.capture.proofs.Captures.{capture_does}
 use Rattle.capture.proofs.capture.Goals as goal
-
-pub capture_both-requires : goal.capture_both-requires
-capture_both-requires c =
-    (lent_after c.capture_both-cd.ensures c.requires.0, omega arith, c.requires.1)
 
 pub returns : goal.returns
 returns c =
