@@ -50,6 +50,7 @@ fn bits(k: usize, m: usize) -> u8
     ((1u32 << (m + k)) - (1u32 << k)) as u8
 }
 
+// A turn takes as many halfwords as have their marks in one byte, here and in `all_marked`: no iterator over marks or bytes counts so.
 fn mark_all(marks: &mut [u8], h: usize, n: usize)
     requires { (h + n ≤ length marks.old * 8) × (length marks.old ≤ 0x8000) }
     ensures { marks.new ≡ marked_from marks.old h n }

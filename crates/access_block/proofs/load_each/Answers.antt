@@ -3,7 +3,7 @@ use native.Mathlib.Omega.{arith}
 use borrow.Author.Rules.{rules}
 use Rattle.soundram.proofs.Addresses.{forward_below}
 use Rattle.soundram.proofs.Programs.{within}
-use Rattle.soundram.proofs.Blocks.{bytes_none, bytes_more, bytes_end_lem}
+use Rattle.soundram.proofs.Blocks.{bytes_none, bytes_more}
 use Rattle.access_block.proofs.load_each.Goals as goal
 
 pub loop-i-init : goal.loop-i-init
@@ -16,6 +16,3 @@ pub loop-i-preserved : goal.loop-i-preserved
 loop-i-preserved c =
     let v = c.loop-i.invariant in
     (omega arith, search rules, bytes_more _ _ _ _ _ _ _ v.1 (omega arith) v.2 c.forward.ensures c.read-got.ensures)
-
-pub returns : goal.returns
-returns c = search (bytes_end_lem, rules)

@@ -1,5 +1,5 @@
 use borrow.Author.Rules.{rules}
-use Rattle.fixed.proofs.Bools.{all_none, all_tested}
+use Rattle.fixed.proofs.Bools.{all_none}
 use Rattle.transfer.proofs.Whole.{tested_more}
 use Rattle.transfer.proofs.all_marked.Goals as goal
 
@@ -10,6 +10,3 @@ pub loop-i-preserved : goal.loop-i-preserved
 loop-i-preserved c =
     let v = c.loop-i.invariant in
     (search rules, tested_more _ _ _ _ v.1 c.bits-mask.ensures c.in_byte-m.ensures.0)
-
-pub returns : goal.returns
-returns c = let v = c.loop-i.invariant in all_tested _ _ _ v.1 v.0 c.loop-i-test.false

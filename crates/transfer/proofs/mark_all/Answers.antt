@@ -1,7 +1,5 @@
 use mathlib.Core.Path.{refl}
 use borrow.Author.Rules.{rules}
-use Rattle.fixed.proofs.Loops.{to_end}
-use Rattle.transfer.specs.Whole.{marked_from}
 use Rattle.transfer.proofs.Whole.{marked_none, marked_more}
 use Rattle.transfer.proofs.mark_all.Goals as goal
 
@@ -12,6 +10,3 @@ pub loop-i-preserved : goal.loop-i-preserved
 loop-i-preserved c =
     let v = c.loop-i.invariant in
     (search rules, search (rules, v.1), marked_more _ _ _ _ v.2 c.bits-mask.ensures c.in_byte-m.ensures.0 (search rules))
-
-pub returns : goal.returns
-returns c = let v = c.loop-i.invariant in to_end (marked_from _ _) _ _ v.2 v.0 c.loop-i-test.false

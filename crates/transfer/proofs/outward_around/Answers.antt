@@ -1,20 +1,11 @@
-use native.Mathlib.Omega.{arith}
 use Rattle.soundram.proofs.Addresses.{forward_below}
-use Rattle.soundram.proofs.Programs.{within, repeat_none, repeat_more, repeat_end}
+use Rattle.soundram.proofs.Programs.{repeat_none, repeat_more, repeat_end}
 use Rattle.transfer.specs.Transfer.{outward_of}
 use Rattle.transfer.proofs.Moves.{get_does}
 use Rattle.transfer.proofs.outward_around.Goals as goal
 
 pub loop-x-init : goal.loop-x-init
 loop-x-init c = (c.requires.0, c.requires.1, repeat_none _ _ _)
-
-pub read-got-requires : goal.read-got-requires
-read-got-requires c = within c.loop-x.invariant.0 c.loop-x.invariant.1
-
-pub forward-address-requires : goal.forward-address-requires
-forward-address-requires c =
-    let z = c.loop-x.invariant.0.sized in
-    (c.loop-x.invariant.1, omega (arith, z.least), z.most)
 
 pub loop-x-preserved : goal.loop-x-preserved
 loop-x-preserved c =
