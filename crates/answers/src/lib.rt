@@ -1,166 +1,155 @@
-// The lines that the programs answer, put into lent bytes at a place: their parts, and the short lines. Each function answers the
-// next place.
+// The lines that the programs answer, put into an output: their parts, and the short lines.
 #![tactic(auto)]
 
 ghost use Rattle.std.specs.Prelude.{◌<◌, ◌≤◌};
-ghost use Rattle.text.specs.Text.{Prints};
+ghost use Rattle.text.specs.Output.{Puts};
 ghost use Rattle.answers.specs.Answer.{decimal_part, flag_part, hex_part, reports_part, start_of, write_text, read_text, moved_of, inward_text, reset_text, refused_text, bench_number, write_answer, inward_answer, title_text, end_text};
+
+use text::Output;
+
+// What a transfer answers.
+#[derive(Clone, Copy)]
+pub struct Transfer {
+    pub number: u8,
+    pub count: u32,
+    pub irq: bool,
+    pub doubt: bool,
+}
 
 // ---- parts of a line, each after a blank
 
-pub fn decimal_part(out: &mut [u8], place: usize, n: u64) -> usize
-    ensures { Prints (decimal_part n) out.old place out.new result }
+pub fn decimal_part(out: &mut Output, n: u64)
+    ensures { Puts (decimal_part n) out.old out.new }
 {
-    let at = text::put_byte(out, place, b' ');
-    text::put_decimal(out, at, n)
+    out.put_byte(b' ');
+    out.put_decimal(n);
 }
 
-pub fn flag_part(out: &mut [u8], place: usize, b: bool) -> usize
-    ensures { Prints (flag_part b) out.old place out.new result }
+pub fn flag_part(out: &mut Output, b: bool)
+    ensures { Puts (flag_part b) out.old out.new }
 {
-    let at = text::put_byte(out, place, b' ');
-    text::put_flag(out, at, b)
+    out.put_byte(b' ');
+    out.put_flag(b);
 }
 
-pub fn hex_part(out: &mut [u8], place: usize, n: u32, k: u32) -> usize
+pub fn hex_part(out: &mut Output, n: u32, k: u32)
     requires { (0 < k) × (k ≤ 8) }
-    ensures { Prints (hex_part n k) out.old place out.new result }
+    ensures { Puts (hex_part n k) out.old out.new }
 {
-    let at = text::put_byte(out, place, b' ');
-    text::put_hex(out, at, n, k)
+    out.put_byte(b' ');
+    out.put_hex(n, k);
 }
 
-pub fn reports_part(out: &mut [u8], place: usize, irq: bool, doubt: bool) -> usize
-    ensures { Prints (reports_part irq doubt) out.old place out.new result }
+pub fn reports_part(out: &mut Output, irq: bool, doubt: bool)
+    ensures { Puts (reports_part irq doubt) out.old out.new }
 {
-    let at = flag_part(out, place, irq);
-    flag_part(out, at, doubt)
+    flag_part(out, irq);
+    flag_part(out, doubt);
 }
 
 // ---- how a line begins
 
 // A command's letter and its number.
-pub fn start(out: &mut [u8], place: usize, letter: u8, number: u8) -> usize
-    ensures { Prints (start_of letter number) out.old place out.new result }
+pub fn start(out: &mut Output, letter: u8, number: u8)
+    ensures { Puts (start_of letter number) out.old out.new }
 {
-    let at = text::put_byte(out, place, letter);
-    decimal_part(out, at, number as u64)
+    out.put_byte(letter);
+    decimal_part(out, number as u64);
 }
 
-pub fn moved(
-    out: &mut [u8],
-    place: usize,
-    letter: u8,
-    number: u8,
-    count: u32,
-    irq: bool,
-    doubt: bool,
-) -> usize
-    ensures { Prints (moved_of letter number count irq doubt) out.old place out.new result }
+pub fn moved(out: &mut Output, letter: u8, t: Transfer)
+    ensures { Puts (moved_of letter t.number t.count t.irq t.doubt) out.old out.new }
 {
-    let a = start(out, place, letter, number);
-    let b = decimal_part(out, a, count as u64);
-    reports_part(out, b, irq, doubt)
+    start(out, letter, t.number);
+    decimal_part(out, t.count as u64);
+    reports_part(out, t.irq, t.doubt);
 }
 
 // ---- lines
 
-pub fn wrote(out: &mut [u8], place: usize, number: u8) -> usize
-    ensures { Prints (write_text number) out.old place out.new result }
+pub fn wrote(out: &mut Output, number: u8)
+    ensures { Puts (write_text number) out.old out.new }
 {
-    let at = start(out, place, b'w', number);
-    text::put_byte(out, at, b'\n')
+    start(out, b'w', number);
+    out.put_byte(b'\n');
 }
 
-pub fn was_read(out: &mut [u8], place: usize, number: u8, value: u16) -> usize
-    ensures { Prints (read_text number value) out.old place out.new result }
+pub fn was_read(out: &mut Output, number: u8, value: u16)
+    ensures { Puts (read_text number value) out.old out.new }
 {
-    let a = start(out, place, b'r', number);
-    let b = hex_part(out, a, value as u32, 4);
-    text::put_byte(out, b, b'\n')
+    start(out, b'r', number);
+    hex_part(out, value as u32, 4);
+    out.put_byte(b'\n');
 }
 
-pub fn moved_in(
-    out: &mut [u8],
-    place: usize,
-    number: u8,
-    count: u32,
-    irq: bool,
-    doubt: bool,
-) -> usize
-    ensures { Prints (inward_text number count irq doubt) out.old place out.new result }
+pub fn moved_in(out: &mut Output, t: Transfer)
+    ensures { Puts (inward_text t.number t.count t.irq t.doubt) out.old out.new }
 {
-    let at = moved(out, place, b's', number, count, irq, doubt);
-    text::put_byte(out, at, b'\n')
+    moved(out, b's', t);
+    out.put_byte(b'\n');
 }
 
-pub fn was_reset(out: &mut [u8], place: usize, number: u8) -> usize
-    ensures { Prints (reset_text number) out.old place out.new result }
+pub fn was_reset(out: &mut Output, number: u8)
+    ensures { Puts (reset_text number) out.old out.new }
 {
-    let a = text::put_text(out, place, b"reset");
-    let b = decimal_part(out, a, number as u64);
-    text::put_byte(out, b, b'\n')
+    out.put_text(b"reset");
+    decimal_part(out, number as u64);
+    out.put_byte(b'\n');
 }
 
-pub fn refused(out: &mut [u8], place: usize, number: u8) -> usize
-    ensures { Prints (refused_text number) out.old place out.new result }
+pub fn refused(out: &mut Output, number: u8)
+    ensures { Puts (refused_text number) out.old out.new }
 {
-    let a = text::put_text(out, place, b"refused");
-    let b = decimal_part(out, a, number as u64);
-    text::put_byte(out, b, b'\n')
+    out.put_text(b"refused");
+    decimal_part(out, number as u64);
+    out.put_byte(b'\n');
 }
 
 // What bench prints of a write or a transfer: the number of a refused one, nothing of an accepted one.
-pub fn bench_number(out: &mut [u8], place: usize, number: u8) -> usize
-    ensures { Prints (bench_number number) out.old place out.new result }
+pub fn bench_number(out: &mut Output, number: u8)
+    ensures { Puts (bench_number number) out.old out.new }
 {
-    if number == 0 {
-        return place;
+    if number != 0 {
+        refused(out, number);
     }
-    refused(out, place, number)
 }
 
-pub fn write_answer(out: &mut [u8], place: usize, bench: bool, number: u8) -> usize
-    ensures { Prints (write_answer bench number) out.old place out.new result }
+pub fn write_answer(out: &mut Output, bench: bool, number: u8)
+    ensures { Puts (write_answer bench number) out.old out.new }
 {
     if bench {
-        return bench_number(out, place, number);
+        bench_number(out, number);
+    } else {
+        wrote(out, number);
     }
-    wrote(out, place, number)
 }
 
-pub fn inward_answer(
-    out: &mut [u8],
-    place: usize,
-    bench: bool,
-    number: u8,
-    count: u32,
-    irq: bool,
-    doubt: bool,
-) -> usize
-    ensures { Prints (inward_answer bench number count irq doubt) out.old place out.new result }
+pub fn inward_answer(out: &mut Output, bench: bool, t: Transfer)
+    ensures { Puts (inward_answer bench t.number t.count t.irq t.doubt) out.old out.new }
 {
     if bench {
-        return bench_number(out, place, number);
+        bench_number(out, t.number);
+    } else {
+        moved_in(out, t);
     }
-    moved_in(out, place, number, count, irq, doubt)
 }
 
 // A program's name and L.
-pub fn title(out: &mut [u8], place: usize, name: &[u8], size: u32) -> usize
-    ensures { Prints (title_text name.now size) out.old place out.new result }
+pub fn title(out: &mut Output, name: &[u8], size: u32)
+    ensures { Puts (title_text name.now size) out.old out.new }
 {
-    let a = text::put_text(out, place, name);
-    let b = decimal_part(out, a, size as u64);
-    text::put_byte(out, b, b'\n')
+    out.put_text(name);
+    decimal_part(out, size as u64);
+    out.put_byte(b'\n');
 }
 
 // A program's last line: the state's doubt.
-pub fn ended(out: &mut [u8], place: usize, doubt: bool) -> usize
-    ensures { Prints (end_text doubt) out.old place out.new result }
+pub fn ended(out: &mut Output, doubt: bool)
+    ensures { Puts (end_text doubt) out.old out.new }
 {
     if doubt {
-        return text::put_text(out, place, b"end doubt\n");
+        out.put_text(b"end doubt\n");
+    } else {
+        out.put_text(b"end clear\n");
     }
-    text::put_text(out, place, b"end clear\n")
 }

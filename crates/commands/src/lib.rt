@@ -1,16 +1,15 @@
-// The command that a line gives: the lines of the core's calls. Of a field that was read and
+// The command that a line gives: the lines of the core's calls. None is a line that is no command. Of a field that was read and
 // passed its test, the remainder is the number itself.
 #![tactic(auto)]
 
 ghost use Rattle.std.specs.Prelude.{◌≡◌};
-ghost use Rattle.commands.specs.Command.{write_of, read_of, inward_of, values_of, outward_of, plain_of, tick_of, view_of, reset_of};
+ghost use Rattle.lines.specs.Line.{when, is_hex};
+ghost use Rattle.commands.specs.Command.{halfword, write_of, read_of, inward_of, values_of, outward_of, plain_of, tick_of, view_of, reset_of};
 
-use lines::Line;
+use lines::{Field, Line};
 
 #[derive(Clone, Copy)]
 pub enum Command {
-    // A line that is no command.
-    Bad,
     // A blank line or a comment.
     Quiet,
     Write {
@@ -52,125 +51,124 @@ pub enum Command {
     },
 }
 
-pub fn write_line(l: Line) -> Command
+// The halfword of a field's digits.
+fn halfword(f: Field) -> u16
+    ensures { result ≡ halfword f }
+{
+    (f.hex.unwrap_or(0) % 0x10000) as u16
+}
+
+// The halfword of a field of hex digits, from least to most of them.
+fn halfword_within(f: Field, least: u64, most: u64) -> Option<u16>
+    ensures { result ≡ when (is_hex least most f) (halfword f) }
+{
+    if f.is_hex(least, most) {
+        Some(halfword(f))
+    } else {
+        None
+    }
+}
+
+pub fn write_line(l: Line) -> Option<Command>
     ensures { result ≡ write_of l }
 {
-    let fields = l.fields;
-    let a = fields[1];
-    let b = fields[2];
-    if (l.count == 3) & (lines::is_hex(a, 1, 4) & lines::is_hex(b, 1, 4)) {
-        return Command::Write {
-            offset: (a.value % 0x10000) as u16,
-            value: (b.value % 0x10000) as u16,
-        };
+    if l.count != 3 {
+        return None;
     }
-    Command::Bad
+    Some(Command::Write {
+        offset: halfword_within(l.fields[1], 1, 4)?,
+        value: halfword_within(l.fields[2], 1, 4)?,
+    })
 }
 
-pub fn read_line(l: Line) -> Command
+pub fn read_line(l: Line) -> Option<Command>
     ensures { result ≡ read_of l }
 {
-    let fields = l.fields;
-    let a = fields[1];
-    if (l.count == 2) & lines::is_hex(a, 1, 4) {
-        return Command::Read {
-            offset: (a.value % 0x10000) as u16,
-        };
+    if l.count != 2 {
+        return None;
     }
-    Command::Bad
+    let offset = halfword_within(l.fields[1], 1, 4)?;
+    Some(Command::Read { offset })
 }
 
-pub fn inward_line(l: Line) -> Command
+pub fn inward_line(l: Line) -> Option<Command>
     ensures { result ≡ inward_of l }
 {
     let n = l.count;
     if (2 <= n) & ((n <= 34) & l.halfwords) {
-        return Command::Inward { count: n - 1 };
+        return Some(Command::Inward { count: n - 1 });
     }
-    Command::Bad
+    None
 }
 
 // The halfwords of such a line: as many of the 33 as its command says.
 pub fn values(l: Line) -> [u16; 33]
     ensures { result ≡ values_of l.fields 33 }
 {
-    let fields = l.fields;
     let mut out = [0u16; 33];
-    for n in 0..33usize {
-        let f = fields[n + 1];
-        out[n] = (f.value % 0x10000) as u16;
+    for (n, f) in l.fields[1..].iter().enumerate() {
+        out[n] = halfword(*f);
     }
     out
 }
 
-pub fn outward_line(l: Line) -> Command
+pub fn outward_line(l: Line) -> Option<Command>
     ensures { result ≡ outward_of l }
 {
-    let fields = l.fields;
-    let a = fields[1];
-    if (l.count == 2) & lines::is_count(a, 0, 64) {
-        return Command::Outward {
-            count: (a.count % 0x100000) as u32,
-        };
+    if l.count != 2 {
+        return None;
     }
-    Command::Bad
+    let count = l.fields[1].count_within(0, 64)?;
+    Some(Command::Outward { count })
 }
 
 // Ticks with no CD samples.
-pub fn plain_line(floats: bool, l: Line) -> Command
+pub fn plain_line(floats: bool, l: Line) -> Option<Command>
     ensures { result ≡ plain_of floats l }
 {
-    let fields = l.fields;
-    let a = fields[1];
-    if (l.count == 2) & lines::is_count(a, 0, 65535) {
-        return Command::Tick {
-            floats,
-            count: (a.count % 0x100000) as u32,
-            left: 0,
-            right: 0,
-        };
+    if l.count != 2 {
+        return None;
     }
-    Command::Bad
+    Some(Command::Tick {
+        floats,
+        count: l.fields[1].count_within(0, 65535)?,
+        left: 0,
+        right: 0,
+    })
 }
 
-pub fn tick_line(floats: bool, l: Line) -> Command
+pub fn tick_line(floats: bool, l: Line) -> Option<Command>
     ensures { result ≡ tick_of floats l }
 {
-    let fields = l.fields;
-    let a = fields[1];
-    let b = fields[2];
-    let d = fields[3];
-    if (l.count == 4)
-        & (lines::is_count(a, 0, 65535) & (lines::is_hex(b, 4, 4) & lines::is_hex(d, 4, 4)))
-    {
-        return Command::Tick {
-            floats,
-            count: (a.count % 0x100000) as u32,
-            left: fixed::to_signed((b.value % 0x10000) as u16),
-            right: fixed::to_signed((d.value % 0x10000) as u16),
-        };
+    if l.count != 4 {
+        return plain_line(floats, l);
     }
-    plain_line(floats, l)
+    let count = l.fields[1].count_within(0, 65535)?;
+    let left = halfword_within(l.fields[2], 4, 4)?;
+    let right = halfword_within(l.fields[3], 4, 4)?;
+    Some(Command::Tick {
+        floats,
+        count,
+        left: fixed::to_signed(left),
+        right: fixed::to_signed(right),
+    })
 }
 
-pub fn view_line(l: Line) -> Command
+pub fn view_line(l: Line) -> Option<Command>
     ensures { result ≡ view_of l }
 {
-    let fields = l.fields;
-    let a = fields[1];
-    if (l.count == 2) & lines::is_hex(a, 1, 8) {
-        return Command::View {
-            address: (a.value % 0x100000000) as u32,
-        };
+    if l.count != 2 {
+        return None;
     }
-    Command::Bad
+    let address = l.fields[1].hex_within(1, 8)?;
+    Some(Command::View { address })
 }
 
-pub fn reset_line(l: Line) -> Command
+pub fn reset_line(l: Line) -> Option<Command>
     ensures { result ≡ reset_of l }
 {
-    if l.count == 1 {
-        return Command::Reset;
+    if l.count != 1 {
+        return None;
     }
-    Command::Bad
+    Some(Command::Reset)
 }

@@ -1,70 +1,69 @@
-// The command that a line gives: the lines on raw sound RAM and marks. Of a field that was read
-// and passed its test, the remainder is the number itself.
+// The command that a line gives: the lines on raw sound RAM and marks. None is a line that is no command.
 #![tactic(auto)]
 
 ghost use Rattle.std.specs.Prelude.{◌≡◌, ◌≤◌};
-ghost use Rattle.commands.specs.Command.{ranged as ranged_of, ram_of, marks_of, fill_of};
+ghost use Rattle.commands.specs.Command.{ranged, address_of, count_of, field_at, ram_of, marks_of, fill_of};
+ghost use Rattle.lines.specs.Line.{when};
 
 use commands::Command;
 use lines::Line;
 
-// Whether the first two fields after the command are a range of units within sound RAM.
-fn ranged(size: u64, unit: u64, least: u64, most: u64, l: Line) -> bool
-    requires { (unit ≤ 2) × (most ≤ 0x80000) }
-    ensures { result ≡ ranged_of size unit least most l }
-{
-    let fields = l.fields;
-    let a = fields[1];
-    let b = fields[2];
-    if lines::is_hex(a, 1, 8) & lines::is_count(b, least, most) {
-        return a.value % 0x100000000 + unit * b.count <= size;
-    }
-    false
+// A range within sound RAM: its first address and how many units it has.
+#[derive(Clone, Copy)]
+struct Span {
+    address: u32,
+    count: u32,
 }
 
-pub fn ram_line(size: u64, l: Line) -> Command
+// The range that the first two fields after the command give, of units of so many bytes.
+fn read_span(size: u64, unit: u64, least: u32, most: u32, l: Line) -> Option<Span>
+    requires { unit ≤ 2 }
+    ensures { result ≡ when (ranged size unit least most l) (record { address = address_of (field_at l 1); count = count_of (field_at l 2) }) }
+{
+    let address = l.fields[1].hex_within(1, 8)?;
+    let count = l.fields[2].count_within(least, most)?;
+    if u64::from(address) + unit * u64::from(count) <= size {
+        Some(Span { address, count })
+    } else {
+        None
+    }
+}
+
+pub fn ram_line(size: u64, l: Line) -> Option<Command>
     ensures { result ≡ ram_of size l }
 {
-    let fields = l.fields;
-    let a = fields[1];
-    let b = fields[2];
-    if (l.count == 3) & ranged(size, 1, 1, 64, l) {
-        return Command::Ram {
-            address: (a.value % 0x100000000) as u32,
-            count: (b.count % 0x100000) as u32,
-        };
+    if l.count != 3 {
+        return None;
     }
-    Command::Bad
+    let Span { address, count } = read_span(size, 1, 1, 64, l)?;
+    Some(Command::Ram { address, count })
 }
 
-pub fn marks_line(size: u64, l: Line) -> Command
+pub fn marks_line(size: u64, l: Line) -> Option<Command>
     ensures { result ≡ marks_of size l }
 {
-    let fields = l.fields;
-    let a = fields[1];
-    let b = fields[2];
-    if (l.count == 3) & (ranged(size, 2, 1, 64, l) & (a.value % 0x100000000 % 2 == 0)) {
-        return Command::Marks {
-            address: (a.value % 0x100000000) as u32,
-            count: (b.count % 0x100000) as u32,
-        };
+    if l.count != 3 {
+        return None;
     }
-    Command::Bad
+    let Span { address, count } = read_span(size, 2, 1, 64, l)?;
+    if address % 2 == 0 {
+        Some(Command::Marks { address, count })
+    } else {
+        None
+    }
 }
 
-pub fn fill_line(size: u64, l: Line) -> Command
+pub fn fill_line(size: u64, l: Line) -> Option<Command>
     ensures { result ≡ fill_of size l }
 {
-    let fields = l.fields;
-    let a = fields[1];
-    let b = fields[2];
-    let d = fields[3];
-    if (l.count == 4) & (ranged(size, 1, 0, 0x80000, l) & lines::is_hex(d, 1, 2)) {
-        return Command::Fill {
-            address: (a.value % 0x100000000) as u32,
-            count: (b.count % 0x100000) as u32,
-            byte: (d.value % 0x100) as u8,
-        };
+    if l.count != 4 {
+        return None;
     }
-    Command::Bad
+    let Span { address, count } = read_span(size, 1, 0, 0x80000, l)?;
+    let byte = (l.fields[3].hex_within(1, 2)? % 0x100) as u8;
+    Some(Command::Fill {
+        address,
+        count,
+        byte,
+    })
 }

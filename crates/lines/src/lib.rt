@@ -1,20 +1,17 @@
 // What is kept of a line of text and of each field, and the tests of a field. A line may be of any length: what is kept is bounded.
 #![tactic(auto)]
 
-ghost use Rattle.std.specs.Prelude.{◌≡◌, ◌+◌, ◌*◌, ◌<◌, ◌≤◌, min};
-ghost use Rattle.lines.specs.Fields.{digit_of};
-ghost use Rattle.lines.specs.Line.{none_of, more_of, is_hex, is_count, fresh_of};
+ghost use Rattle.std.specs.Prelude.{◌≡◌, ◌<◌, ◌≤◌};
+ghost use Rattle.lines.specs.Line.{when, number, longer_of, none_of, more_of, is_hex, is_count, fresh_of};
 
-// A field: its length, its bytes as one number, whether they are hex digits and their value, whether they are decimal digits and the
-// count. Each number is kept up to a limit.
+// A field: its length, its bytes as one number, and the numbers that they write as hex digits and as decimal digits, where they are
+// such digits. Each number is kept up to a limit.
 #[derive(Clone, Copy)]
 pub struct Field {
     pub length: u64,
     pub word: u64,
-    pub hex: bool,
-    pub value: u64,
-    pub decimal: bool,
-    pub count: u64,
+    pub hex: Option<u32>,
+    pub decimal: Option<u32>,
 }
 
 // A line so far: whether it has a byte, whether the first is #, the field that runs, the first 34 that have ended, how many
@@ -29,43 +26,21 @@ pub struct Line {
     pub halfwords: bool,
 }
 
-// A line after a run of bytes, the index past the last of them, and whether that was the line's end.
+// A line after a run of bytes: at its end, with the index past it, or at theirs.
 #[derive(Clone, Copy)]
-pub struct Scanned {
-    pub line: Line,
-    pub at: usize,
-    pub ended: bool,
+pub enum Scanned {
+    Ended { line: Line, at: usize },
+    Open { line: Line },
 }
 
-// What a hex digit counts, 16 for a byte that is none.
-fn digit(b: u8) -> u64
-    ensures { result ≡ digit_of b }
+// A number with one digit more, up to a limit; none where the byte is no digit in the base.
+fn longer(number: Option<u32>, base: u32, b: u8, limit: u32) -> Option<u32>
+    requires { (2 ≤ base) × (base ≤ 16) }
+    ensures { result ≡ longer_of base limit number b }
 {
-    let n = b as u64;
-    if (48 <= n) & (n <= 57) {
-        return n - 48;
-    }
-    if (65 <= n) & (n <= 70) {
-        return n - 55;
-    }
-    if (97 <= n) & (n <= 102) {
-        return n - 87;
-    }
-    16
-}
-
-fn least(a: u64, b: u64) -> u64
-    ensures { result ≡ min a b }
-{
-    if a < b { a } else { b }
-}
-
-// A number with one digit more, up to a limit.
-fn longer(n: u64, base: u64, d: u64, limit: u64) -> u64
-    requires { (0 < base) × (base ≤ 256) × (d ≤ 256) × (limit ≤ 0x1000000000000) }
-    ensures { result ≡ min (n * base + d) limit }
-{
-    least(least(n, limit) * base + d, limit)
+    let n = u64::from(number?);
+    let digit = char::from(b).to_digit(base)?;
+    Some((n * u64::from(base) + u64::from(digit)).min(u64::from(limit)) as u32)
 }
 
 impl Field {
@@ -76,41 +51,56 @@ impl Field {
         Field {
             length: 0,
             word: 1,
-            hex: true,
-            value: 0,
-            decimal: true,
-            count: 0,
+            hex: Some(0),
+            decimal: Some(0),
         }
     }
-}
 
-// A field with one byte more.
-pub fn more(f: Field, b: u8) -> Field
-    ensures { result ≡ more_of f b }
-{
-    let d = digit(b);
-    Field {
-        length: longer(f.length, 1, 1, 9),
-        word: longer(f.word, 256, b as u64, 0x1000000000000),
-        hex: f.hex & (d < 16),
-        value: longer(f.value, 16, d, 0xFFFFFFFF),
-        decimal: f.decimal & (d < 10),
-        count: longer(f.count, 10, d, 1000000),
+    // The field with one byte more.
+    pub fn more(self, b: u8) -> Self
+        ensures { result ≡ more_of self b }
+    {
+        Field {
+            length: self.length.saturating_add(1).min(9),
+            word: self
+                .word
+                .saturating_mul(256)
+                .saturating_add(u64::from(b))
+                .min(0x1000000000000),
+            hex: longer(self.hex, 16, b, 0xFFFFFFFF),
+            decimal: longer(self.decimal, 10, b, 1000000),
+        }
     }
-}
 
-// Whether a field is hex digits, from least to most of them.
-pub fn is_hex(f: Field, least: u64, most: u64) -> bool
-    ensures { result ≡ is_hex least most f }
-{
-    f.hex & ((least <= f.length) & (f.length <= most))
-}
+    // Whether a field is hex digits, from least to most of them.
+    pub fn is_hex(self, least: u64, most: u64) -> bool
+        ensures { result ≡ is_hex least most self }
+    {
+        self.hex.is_some() & ((least <= self.length) & (self.length <= most))
+    }
 
-// Whether a field is decimal digits, of a number from least to most.
-pub fn is_count(f: Field, least: u64, most: u64) -> bool
-    ensures { result ≡ is_count least most f }
-{
-    f.decimal & (!(f.length == 0) & ((least <= f.count) & (f.count <= most)))
+    // The number of a field of hex digits, from least to most of them.
+    pub fn hex_within(self, least: u64, most: u64) -> Option<u32>
+        ensures { result ≡ when (is_hex least most self) (number self.hex) }
+    {
+        if self.is_hex(least, most) {
+            self.hex
+        } else {
+            None
+        }
+    }
+
+    // The number of a field of decimal digits, if it goes from least to most.
+    pub fn count_within(self, least: u32, most: u32) -> Option<u32>
+        ensures { result ≡ when (is_count least most self) (number self.decimal) }
+    {
+        let n = self.decimal?;
+        if !(self.length == 0) & ((least <= n) & (n <= most)) {
+            Some(n)
+        } else {
+            None
+        }
+    }
 }
 
 impl Line {
@@ -119,12 +109,11 @@ impl Line {
         ensures { result ≡ fresh_of }
     {
         let running = Field::none();
-        let fields = [running; 34];
         Line {
             begun: false,
             comment: false,
             running,
-            fields,
+            fields: [running; 34],
             count: 0,
             halfwords: true,
         }

@@ -1,7 +1,7 @@
 // A line as it is read byte by byte, up to its end.
 #![tactic(auto)]
 
-ghost use Rattle.std.specs.Prelude.{◌≡◌, ◌+◌, min, drop, set};
+ghost use Rattle.std.specs.Prelude.{◌≡◌, drop, set};
 ghost use Rattle.lines.specs.Fields.{blank as blank_at};
 ghost use Rattle.lines.specs.Line.{joined_of, ended_of, begun_of, grown_of, feed_of, scan_of};
 
@@ -10,43 +10,29 @@ use lines::{Field, Line, Scanned};
 fn blank(b: u8) -> bool
     ensures { result ≡ blank_at b }
 {
-    (b == b' ') | ((b == b'\t') | (b == b'\r'))
+    matches!(b, b' ' | b'\t' | b'\r')
 }
 
 // The fields with one more at an index; past the 34th none is kept.
-fn stored(fields: [Field; 34], n: usize, f: Field) -> [Field; 34]
+fn stored(mut fields: [Field; 34], n: usize, f: Field) -> [Field; 34]
     ensures { result ≡ set fields n f }
 {
-    let mut t = fields;
     if n < 34 {
-        t[n] = f;
-        return t;
+        fields[n] = f;
     }
-    t
-}
-
-fn one_more(n: usize) -> usize
-    ensures { result ≡ min (n + 1) 34 }
-{
-    if n < 34 { n + 1 } else { 34 }
+    fields
 }
 
 // The running field joins the others.
 fn join(l: Line) -> Line
     ensures { result ≡ joined_of l }
 {
-    let n = l.count;
-    let f = l.running;
-    let before = l.fields;
-    let fields = stored(before, n, f);
-    let running = Field::none();
     Line {
-        begun: l.begun,
-        comment: l.comment,
-        running,
-        fields,
-        count: one_more(n),
-        halfwords: l.halfwords & ((n == 0) | lines::is_hex(f, 1, 4)),
+        running: Field::none(),
+        fields: stored(l.fields, l.count, l.running),
+        count: l.count.saturating_add(1).min(34),
+        halfwords: l.halfwords & ((l.count == 0) | l.running.is_hex(1, 4)),
+        ..l
     }
 }
 
@@ -63,19 +49,20 @@ pub fn finish(l: Line) -> Line
 fn begin(l: Line, b: u8) -> Line
     ensures { result ≡ begun_of l b }
 {
-    let mut t = l;
-    t.begun = true;
-    t.comment = l.comment | (!l.begun & (b == b'#'));
-    t
+    Line {
+        begun: true,
+        comment: l.comment | (!l.begun & (b == b'#')),
+        ..l
+    }
 }
 
 fn grow(l: Line, b: u8) -> Line
     ensures { result ≡ grown_of l b }
 {
-    let running = lines::more(l.running, b);
-    let mut t = l;
-    t.running = running;
-    t
+    Line {
+        running: l.running.more(b),
+        ..l
+    }
 }
 
 // A line with one byte more.
@@ -93,22 +80,16 @@ pub fn feed(l: Line, b: u8) -> Line
 pub fn scan(l: Line, bytes: &[u8], from: usize) -> Scanned
     ensures { result ≡ scan_of l from (drop from bytes.now) }
 {
+    let rest = &bytes[from.min(bytes.len())..];
     let mut line = l;
-    let mut i = from;
-    while i < bytes.len() {
-        if bytes[i] == b'\n' {
-            return Scanned {
+    for (i, &b) in rest.iter().enumerate() {
+        if b == b'\n' {
+            return Scanned::Ended {
                 line,
-                at: i + 1,
-                ended: true,
+                at: from + i + 1,
             };
         }
-        line = feed(line, bytes[i]);
-        i += 1;
+        line = feed(line, b);
     }
-    Scanned {
-        line,
-        at: i,
-        ended: false,
-    }
+    Scanned::Open { line }
 }

@@ -10,6 +10,8 @@ use borrow.Author.Tests.{lt-ltb, le-ltb}
 use lib.ListN.{length, take, drop, get_or, set, length-set}
 use lib.Seq.{drop-cons, drop-length, sets, sets-eq}
 use Rattle.text.specs.Text.{Page, page, put_of, printed_of, Prints}
+use Rattle.text.specs.Output.{Puts}
+use Rattle.text.specs.declared.Output.{Output}
 
 -- ---- one byte
 
@@ -33,44 +35,57 @@ prints_none o a = record { is = refl }
 pub prints_then : {s t o o' o'' : List ℕ} {a a' a'' : ℕ} → Prints s o a o' a' → Prints t o' a' o'' a'' → Prints (s ++ t) o a o'' a''
 prints_then {s} {t} {o} {o'} {o''} {a} p q = record { is = printed_append s t (page o a) ∙ ap (λ (x : Page). printed_of x t) p.is ∙ q.is }
 
-pub prints_byte : {b : ℕ} {t o o' o'' : List ℕ} {a a' a'' : ℕ} → Prints (b ∷ []) o a o' a' → Prints t o' a' o'' a'' → Prints (b ∷ t) o a o'' a''
-prints_byte p q = prints_then p q
+-- ---- text put into an output
+
+pub puts_none : (p : Output) → Puts [] p p
+puts_none p = record { same = refl; prints = prints_none p.bytes.now p.place }
+
+pub puts_then : {s t : List ℕ} {p q r : Output} → Puts s p q → Puts t q r → Puts (s ++ t) p r
+puts_then h k = record { same = k.same ∙ h.same; prints = prints_then h.prints k.prints }
+
+pub puts_byte : {b : ℕ} {t : List ℕ} {p q r : Output} → Puts (b ∷ []) p q → Puts t q r → Puts (b ∷ t) p r
+puts_byte h k = puts_then h k
 
 -- one text or another, by a test
-pub prints_set : (b : Bool) (s t : List ℕ) {o o' : List ℕ} {a a' : ℕ} → b ≡ true → Prints s o a o' a' → Prints (cond b s t) o a o' a'
-prints_set b s t e p = rw e p
+pub puts_set : (b : Bool) (s t : List ℕ) {p q : Output} → b ≡ true → Puts s p q → Puts (cond b s t) p q
+puts_set b s t e h = rw e h
 
-pub prints_clear : (b : Bool) (s t : List ℕ) {o o' : List ℕ} {a a' : ℕ} → b ≡ false → Prints t o a o' a' → Prints (cond b s t) o a o' a'
-prints_clear b s t e p = rw e p
+pub puts_clear : (b : Bool) (s t : List ℕ) {p q : Output} → b ≡ false → Puts t p q → Puts (cond b s t) p q
+puts_clear b s t e h = rw e h
 
 -- ---- what is left of a text while it is put
 
-pub record Left (whole o₀ : List ℕ) (a₀ : ℕ) (rest o : List ℕ) (a : ℕ) : Type 0 where
-  pub is : printed_of (page o a) rest ≡ printed_of (page o₀ a₀) whole
+pub record Left (whole : List ℕ) (p₀ : Output) (rest : List ℕ) (p : Output) : Type 0 where
+  pub same : p.bytes.ghost_name ≡ p₀.bytes.ghost_name
+  pub is : printed_of (page p.bytes.now p.place) rest ≡ printed_of (page p₀.bytes.now p₀.place) whole
 
-pub left_all : (t o : List ℕ) (a : ℕ) → Left t o a t o a
-left_all t o a = record { is = refl }
+pub left_all : (t : List ℕ) (p : Output) → Left t p t p
+left_all t p = record { same = refl; is = refl }
 
-pub left_more : {w o₀ o o' rest : List ℕ} {a₀ a a' b : ℕ} → Left w o₀ a₀ (b ∷ rest) o a → Prints (b ∷ []) o a o' a' → Left w o₀ a₀ rest o' a'
-left_more {rest = rest} l p = record { is = ap (λ (x : Page). printed_of x rest) (sym p.is) ∙ l.is }
+pub left_then : {w s rest : List ℕ} {p₀ p q : Output} → Left w p₀ (s ++ rest) p → Puts s p q → Left w p₀ rest q
+left_then {s = s} {rest = rest} {p = p} l h =
+    record {
+      same = h.same ∙ l.same;
+      is = ap (λ (x : Page). printed_of x rest) (sym h.prints.is) ∙ sym (printed_append s rest (page p.bytes.now p.place)) ∙ l.is;
+    }
 
-pub left_then : {w o₀ o o' s rest : List ℕ} {a₀ a a' : ℕ} → Left w o₀ a₀ (s ++ rest) o a → Prints s o a o' a' → Left w o₀ a₀ rest o' a'
-left_then {o = o} {s = s} {rest = rest} {a = a} l p = record { is = ap (λ (x : Page). printed_of x rest) (sym p.is) ∙ sym (printed_append s rest (page o a)) ∙ l.is }
+pub left_more : {w rest : List ℕ} {p₀ p q : Output} {b : ℕ} → Left w p₀ (b ∷ rest) p → Puts (b ∷ []) p q → Left w p₀ rest q
+left_more l h = left_then l h
 
-pub left_none : {w o₀ o : List ℕ} {a₀ a : ℕ} → Left w o₀ a₀ [] o a → Prints w o₀ a₀ o a
-left_none l = record { is = sym l.is }
+pub left_none : {w : List ℕ} {p₀ p : Output} → Left w p₀ [] p → Puts w p₀ p
+left_none l = record { same = l.same; prints = record { is = sym l.is } }
 
 -- ---- a text that is lent
 
-pub text_all : (t o : List ℕ) (a : ℕ) → Left t o a (drop 0 t) o a
-text_all t o a = left_all t o a
+pub text_all : (t : List ℕ) (p : Output) → Left t p (drop 0 t) p
+text_all t p = left_all t p
 
-pub text_more : (t : List ℕ) (i : ℕ) {w o₀ o o' : List ℕ} {a₀ a a' : ℕ}
-    → Left w o₀ a₀ (drop i t) o a → i < length t → Prints (get_or t i 0 ∷ []) o a o' a' → Left w o₀ a₀ (drop (i + 1) t) o' a'
-text_more t i {w} {o₀} {o} {o'} {a₀} {a} l h p = rw add-one (left_more (rw (drop-cons t i 0 h) at l) p)
+pub text_more : (t : List ℕ) (i : ℕ) {w : List ℕ} {p₀ p q : Output}
+    → Left w p₀ (drop i t) p → i < length t → Puts (get_or t i 0 ∷ []) p q → Left w p₀ (drop (i + 1) t) q
+text_more t i {w} {p₀} {p} l h k = rw add-one (left_more (rw (drop-cons t i 0 h) at l) k)
 
-pub text_none : (t : List ℕ) (i : ℕ) {w o₀ o : List ℕ} {a₀ a : ℕ} → Left w o₀ a₀ (drop i t) o a → i ≤ length t → length t ≤ i → Prints w o₀ a₀ o a
-text_none t i {w} {o₀} {o} {a₀} {a} l h k =
+pub text_none : (t : List ℕ) (i : ℕ) {w : List ℕ} {p₀ p : Output} → Left w p₀ (drop i t) p → i ≤ length t → length t ≤ i → Puts w p₀ p
+text_none t i {w} {p₀} {p} l h k =
     let e : i ≡ length t = omega arith in
     left_none (rw drop-length at (rw e at l))
 

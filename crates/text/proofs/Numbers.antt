@@ -8,29 +8,27 @@ use native.Mathlib.Omega.{arith}
 use native.Mathlib.Decide.{dec_lt}
 use borrow.Author.Tests.{lt-ltb, le-ltb, ltb-true, eqb-true, ne_eqb}
 use lib.Dec.{eqb, ltb, eqb→eq}
-use lib.IntN.{ℤ}
-use mir.Syntax.{w16}
-use mir.Val.{SFits, to_z, of_z}
-use mir.Facts.{to_z-of_z}
-use Rattle.fixed.specs.Signed.{signed, bits_of}
-use Rattle.fixed.proofs.Parts.{of_fits}
-use Rattle.fixed.proofs.TwosComplement.{signed_bits, signed_low}
+use lib.ListN.{get_or}
+use lib.IntN.{ℤ, pos, negsuc}
+use Rattle.std.specs.Prelude.{◌<ℤ◌, ◌≤ℤ◌, unsigned_abs}
+use Rattle.std.proofs.lemmas.Int.{ints}
 use Rattle.fixed.proofs.Table.{below_at}
 use Rattle.fixed.proofs.Bools.{and_first, and_rest}
-use Rattle.text.specs.Text.{Prints, glyph_of, digits_of, trimmed, decimal_text, signed_text}
-use Rattle.text.proofs.Laws.{Left, left_more, left_none, prints_then}
-
--- ---- tests
+use Rattle.text.specs.Text.{glyph_of, digits_of, trimmed, decimal_text, signed_text}
+use Rattle.text.specs.Output.{Puts}
+use Rattle.text.specs.declared.Output.{Output}
+use Rattle.text.proofs.Laws.{Left, left_more, left_none, puts_then}
 
 -- ---- digits
 
-pub glyph_decimal : (d : ℕ) → d < 10 → 48 + d ≡ glyph_of d
+-- the table has at each place the digit of that number
+glyph_at : ℕ → Bool
 unfolding glyph_of
-glyph_decimal d h = rw (lt-ltb d 10 h)
+glyph_at d = eqb (get_or (48 ∷ 49 ∷ 50 ∷ 51 ∷ 52 ∷ 53 ∷ 54 ∷ 55 ∷ 56 ∷ 57 ∷ 65 ∷ 66 ∷ 67 ∷ 68 ∷ 69 ∷ 70 ∷ []) d 0) (glyph_of d)
 
-pub glyph_letter : (d : ℕ) → 10 ≤ d → 55 + d ≡ glyph_of d
-unfolding glyph_of
-glyph_letter d h = rw (le-ltb d 10 h)
+pub glyph_is : (d : ℕ) → d < 16 → get_or (48 ∷ 49 ∷ 50 ∷ 51 ∷ 52 ∷ 53 ∷ 54 ∷ 55 ∷ 56 ∷ 57 ∷ 65 ∷ 66 ∷ 67 ∷ 68 ∷ 69 ∷ 70 ∷ []) d 0 ≡ glyph_of d
+unfolding glyph_at glyph_of
+glyph_is d h = eqb→eq _ _ (below_at 16 glyph_at tt d h)
 
 pub glyph_small : (x base : ℕ) → 1 < base → base ≤ 16 → x % base < 16
 glyph_small x base h k = let p = mod-lt x {m = base} (omega arith) in omega arith
@@ -65,14 +63,14 @@ power_next base zero e b h = absurd (omega (arith, h))
 power_next base (suc zero) e b h = rw (e, pow-zero) (div-eq_of_lt b)
 power_next base (suc (suc k)) e b h = let d : suc (suc k) - 1 ≡ suc k = omega arith in rw (d, e, pow-suc) (mul-div_cancel (base ^ k) (omega (arith, b)))
 
-pub digits_more : (base n k : ℕ) {w o₀ o o' : List ℕ} {a₀ a a' p g : ℕ}
-    → Left w o₀ a₀ (digits_of base n k) o a → 0 < k → p ≡ power_at base k → g ≡ glyph_of (n / p % base) → Prints (g ∷ []) o a o' a'
-    → Left w o₀ a₀ (digits_of base n (k - 1)) o' a'
+pub digits_more : (base n k : ℕ) {w : List ℕ} {p₀ q r : Output} {p g : ℕ}
+    → Left w p₀ (digits_of base n k) q → 0 < k → p ≡ power_at base k → g ≡ glyph_of (n / p % base) → Puts (g ∷ []) q r
+    → Left w p₀ (digits_of base n (k - 1)) r
 unfolding digits_of power_at
 digits_more base n zero l h e q p = absurd (omega (arith, h))
 digits_more base n (suc k) l h e q p = let d : suc k - 1 ≡ k = omega arith in rw d (left_more l (rw (q, e) at p))
 
-pub digits_none : (base n k : ℕ) {w o₀ o : List ℕ} {a₀ a : ℕ} → Left w o₀ a₀ (digits_of base n k) o a → k ≤ 0 → Prints w o₀ a₀ o a
+pub digits_none : (base n k : ℕ) {w : List ℕ} {p₀ p : Output} → Left w p₀ (digits_of base n k) p → k ≤ 0 → Puts w p₀ p
 unfolding digits_of
 digits_none base n zero l h = left_none l
 digits_none base n (suc k) l h = absurd (omega (arith, h))
@@ -115,11 +113,12 @@ trim_more n k p i e q =
 
 -- another digit, or the last, stays
 other_glyph : (d : ℕ) → 0 < d → eqb (glyph_of d) 48 ≡ false
+unfolding glyph_of
 other_glyph d h = by (dec_lt d 10)
   where
     by : Dec (d < 10) → eqb (glyph_of d) 48 ≡ false
-    by (yes p) = rw (← glyph_decimal d p) (ne_eqb (48 + d) 48 (λ e. omega (arith, e)))
-    by (no p) = rw (← glyph_letter d (omega arith)) (ne_eqb (55 + d) 48 (λ e. omega (arith, e)))
+    by (yes p) = rw (lt-ltb d 10 p) (ne_eqb (48 + d) 48 (λ e. omega (arith, e)))
+    by (no p) = rw (le-ltb d 10 (omega arith)) (ne_eqb (55 + d) 48 (λ e. omega (arith, e)))
 
 trim_done : (n k : ℕ) {p : ℕ} → 0 < k → p ≡ power_at 10 k → idle n k p ≡ false → trimmed (digits_of 10 n k) ≡ digits_of 10 n k
 unfolding trimmed digits_of power_at
@@ -131,26 +130,18 @@ trim_done n (suc (suc k)) h e z = rw (stays (n / 10 ^ suc k % 10) (rw e at z))
     stays zero q = absurd (true≢false (rw (lt-ltb 1 (suc (suc k)) (omega arith)) at q))
     stays (suc d) q = other_glyph (suc d) (omega arith)
 
-pub decimal_prints : (n k p : ℕ) {o o' : List ℕ} {a a' : ℕ} → 0 < k → p ≡ power_at 10 k → idle n k p ≡ false
-    → trimmed (digits_of 10 n k) ≡ decimal_text n → Prints (digits_of 10 n k) o a o' a' → Prints (decimal_text n) o a o' a'
-decimal_prints n k p h e i q r = rw (← q, trim_done n k h e i) r
+pub decimal_puts : (n k p : ℕ) {q r : Output} → 0 < k → p ≡ power_at 10 k → idle n k p ≡ false
+    → trimmed (digits_of 10 n k) ≡ decimal_text n → Puts (digits_of 10 n k) q r → Puts (decimal_text n) q r
+decimal_puts n k p h e i q r = rw (← q, trim_done n k h e i) r
 
 -- ---- signed
 
-whole : (x : ℤ) → SFits w16 x → signed 16 (bits_of 16 x) ≡ x
-whole x f = let i = of_fits w16 x f in signed_bits 16 0x8000 x refl (omega arith) (omega arith)
-
-bits_of_lem : (x : ℤ) {m : ℕ} → SFits w16 x → m ≡ bits_of 16 (to_z w16 (of_z w16 x)) → m ≡ bits_of 16 x
-bits_of_lem x f e = e ∙ ap (bits_of 16) (to_z-of_z f)
-
-pub plus_prints : (x : ℤ) {m : ℕ} {o o' : List ℕ} {a a' : ℕ} → SFits w16 x → m ≡ bits_of 16 (to_z w16 (of_z w16 x)) → m < 0x8000
-    → Prints (decimal_text m) o a o' a' → Prints (signed_text x) o a o' a'
+pub minus_puts : (x : ℤ) {m : ℕ} {p q r : Output} → x <ℤ pos 0 → m ≡ unsigned_abs x → Puts (45 ∷ []) p q → Puts (decimal_text m) q r → Puts (signed_text x) p r
 unfolding signed_text
-plus_prints x {m} f e h p = rw (← whole x f, ← bits_of_lem x f e, signed_low 16 m (omega arith)) p
+minus_puts (pos n) h e k l = absurd (omega (arith, ints))
+minus_puts (negsuc n) h e k l = puts_then k (rw e at l)
 
-pub minus_prints : (x : ℤ) {m : ℕ} {o o' o'' : List ℕ} {a a' a'' : ℕ} → SFits w16 x → m ≡ bits_of 16 (to_z w16 (of_z w16 x)) → 0x8000 ≤ m → m < 0x10000
-    → Prints (45 ∷ []) o a o' a' → Prints (decimal_text (0x10000 - m)) o' a' o'' a'' → Prints (signed_text x) o a o'' a''
-unfolding signed_text signed
-minus_prints x {m} f e h l p q =
-    let s : suc (0x10000 - suc m) ≡ 0x10000 - m = omega arith in
-    rw (← whole x f, ← bits_of_lem x f e, le-ltb (m + m) 0x10000 (omega arith), s) (prints_then p q)
+pub plus_puts : (x : ℤ) {m : ℕ} {p q : Output} → pos 0 ≤ℤ x → m ≡ unsigned_abs x → Puts (decimal_text m) p q → Puts (signed_text x) p q
+unfolding signed_text
+plus_puts (pos n) h e k = rw e at k
+plus_puts (negsuc n) h e k = absurd (omega (arith, ints))

@@ -1,7 +1,7 @@
-use Rattle.text.proofs.Laws.{prints_byte}
+use Rattle.text.proofs.Laws.{puts_byte}
 use Rattle.answers.specs.Answer.{decimal_part}
 use Rattle.answers.proofs.decimal_part.Goals as goal
 
 pub returns : goal.returns
 unfolding decimal_part
-returns c = search prints_byte
+returns c = search puts_byte

@@ -1,7 +1,7 @@
-use Rattle.text.proofs.Laws.{prints_byte}
+use Rattle.text.proofs.Laws.{puts_byte}
 use Rattle.answers.specs.Answer.{hex_part}
 use Rattle.answers.proofs.hex_part.Goals as goal
 
 pub returns : goal.returns
 unfolding hex_part
-returns c = search prints_byte
+returns c = search puts_byte

@@ -1,7 +1,7 @@
-use Rattle.text.proofs.Laws.{prints_then}
+use Rattle.text.proofs.Laws.{puts_then}
 use Rattle.answers.specs.Answer.{inward_text}
 use Rattle.answers.proofs.moved_in.Goals as goal
 
 pub returns : goal.returns
 unfolding inward_text
-returns c = search prints_then
+returns c = search puts_then

@@ -1,7 +1,7 @@
-use Rattle.text.proofs.Laws.{prints_byte}
+use Rattle.text.proofs.Laws.{puts_byte}
 use Rattle.answers.specs.Answer.{start_of}
 use Rattle.answers.proofs.start.Goals as goal
 
 pub returns : goal.returns
 unfolding start_of
-returns c = search prints_byte
+returns c = search puts_byte

@@ -1,12 +1,8 @@
 use Rattle.answers.specs.Answer.{halfwords_from}
 use Rattle.text.proofs.Laws.{Left}
 use lib.ListN.{length}
-use mathlib.Core.Path.{◌≡◌}
-use Prim.Native.Nat.{◌-◌, ◌≤◌}
+use Prim.Native.Nat.{◌-◌}
 use Rattle.answers_memory.proofs.halfwords.Given as goal
 
-abbrev pub invariant-loop-i : goal.invariant-loop-i
-invariant-loop-i l = (l.i ≤ length l.values) × (length l.out ≡ length l.initial.out) × Left (halfwords_from l.values 0 (length l.values)) l.initial.out l.place (halfwords_from l.values l.i (length l.values - l.i)) l.out l.at
-
-abbrev pub decreases-loop-i : goal.decreases-loop-i
-decreases-loop-i l = length l.values - l.i
+abbrev pub invariant-loop-value : goal.invariant-loop-value
+invariant-loop-value l = Left (halfwords_from l.values 0 (length l.values)) l.initial.out (halfwords_from l.values l.value-index (length l.values - l.value-index)) l.out

@@ -1,7 +1,7 @@
-use Rattle.text.proofs.Laws.{prints_then}
+use Rattle.text.proofs.Laws.{puts_then}
 use Rattle.answers.specs.Answer.{halfwords_end}
 use Rattle.answers_memory.proofs.halfwords_end.Goals as goal
 
 pub returns : goal.returns
 unfolding halfwords_end
-returns c = search prints_then
+returns c = search puts_then

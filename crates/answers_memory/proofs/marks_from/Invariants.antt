@@ -1,12 +1,7 @@
 use Rattle.answers.specs.Answer.{marks_from}
 use Rattle.text.proofs.Laws.{Left}
-use lib.ListN.{length}
-use mathlib.Core.Path.{◌≡◌}
-use Prim.Native.Nat.{◌+◌, ◌-◌, ◌≤◌}
+use Prim.Native.Nat.{◌+◌, ◌-◌}
 use Rattle.answers_memory.proofs.marks_from.Given as goal
 
-abbrev pub invariant-loop-k : goal.invariant-loop-k
-invariant-loop-k l = (l.k ≤ l.n) × (length l.out ≡ length l.initial.out) × Left (marks_from l.values l.from (l.n)) l.initial.out l.place (marks_from l.values (l.from + l.k) (l.n - l.k)) l.out l.at
-
-abbrev pub decreases-loop-k : goal.decreases-loop-k
-decreases-loop-k l = l.n - l.k
+abbrev pub invariant-loop-h : goal.invariant-loop-h
+invariant-loop-h l = Left (marks_from l.values l.from l.n) l.initial.out (marks_from l.values l.h (l.from + l.n - l.h)) l.out

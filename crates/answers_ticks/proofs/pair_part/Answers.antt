@@ -1,7 +1,5 @@
-use Rattle.answers_ticks.proofs.Laws.{pair_of}
-use Rattle.answers.specs.Answer.{pair_part}
+use Rattle.text.proofs.Laws.{puts_then}
 use Rattle.answers_ticks.proofs.pair_part.Goals as goal
 
 pub returns : goal.returns
-unfolding pair_part
-returns c = search pair_of
+returns g c = search puts_then

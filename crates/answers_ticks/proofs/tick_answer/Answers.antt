@@ -1,8 +1,11 @@
-use Rattle.answers_ticks.proofs.Laws.{bench_ticked, replay_ticked}
+use Rattle.text.proofs.Laws.{puts_set, puts_clear}
+use Rattle.answers.specs.Answer.{tick_answer}
 use Rattle.answers_ticks.proofs.tick_answer.Goals as goal
 
 pub returns-then-bench : goal.returns-then-bench
-returns-then-bench c = search bench_ticked
+unfolding tick_answer
+returns-then-bench c = search puts_set
 
-pub returns : goal.returns
-returns c = search replay_ticked
+pub returns-else-bench : goal.returns-else-bench
+unfolding tick_answer
+returns-else-bench c = search puts_clear

@@ -1,7 +1,7 @@
-use Rattle.answers_ticks.proofs.Laws.{around_pair}
-use Rattle.answers.specs.Answer.{tick_text}
+use Rattle.answers_ticks.proofs.Laws.{line_puts}
 use Rattle.answers_ticks.proofs.ticked.Goals as goal
 
 pub returns : goal.returns
-unfolding tick_text
-returns c = search around_pair
+returns g c =
+    let e = g.met.S.Sample.line_is c.args.t.number c.args.t.tick c.args.t.left c.args.t.right c.args.t.irq c.args.t.doubt c.args.t.after in
+    line_puts e (rw c.LETTER.ensures at c.tick_start.ensures) c.pair_part.ensures c.end_part.ensures

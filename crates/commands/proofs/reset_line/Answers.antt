@@ -1,12 +1,13 @@
-use borrow.Author.Tests.{eq-eqb, ne_eqb}
-use Rattle.commands.proofs.Laws.{pick, pass}
+use Rattle.std.proofs.Common.{arith}
+use Rattle.std.proofs.lemmas.Grind.{common_steps}
+use Rattle.std.proofs.lemmas.Bool.Decides.{nat_tests}
 use Rattle.commands.specs.Command.{reset_of}
 use Rattle.commands.proofs.reset_line.Goals as goal
 
-pub returns-then-l-eq1 : goal.returns-then-l-eq1
+pub returns-then-l-ne1 : goal.returns-then-l-ne1
 unfolding reset_of
-returns-then-l-eq1 c = search (pick, eq-eqb)
+returns-then-l-ne1 c = grind (arith, nat_tests, common_steps)
 
 pub returns : goal.returns
 unfolding reset_of
-returns c = search (pass, ne_eqb)
+returns c = grind (arith, nat_tests, common_steps)

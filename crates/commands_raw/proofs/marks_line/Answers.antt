@@ -1,12 +1,21 @@
-use Rattle.commands.proofs.Laws.{pick_2, pass_2}
+use Rattle.std.proofs.Common.{arith}
+use Rattle.std.proofs.lemmas.Grind.{common_steps}
+use Rattle.std.proofs.lemmas.Bool.Decides.{nat_tests}
 use Rattle.commands.specs.Command.{marks_of}
-use borrow.Author.Rules.{rules}
 use Rattle.commands_raw.proofs.marks_line.Goals as goal
 
-pub returns-then-l-ranged : goal.returns-then-l-ranged
+pub returns-then-l-ne3 : goal.returns-then-l-ne3
 unfolding marks_of
-returns-then-l-ranged c = search (pick_2, rules)
+returns-then-l-ne3 c = grind (arith, nat_tests, common_steps)
 
-pub returns : goal.returns
+pub returns-in_err-address : goal.returns-in_err-address
 unfolding marks_of
-returns c = search (pass_2, rules)
+returns-in_err-address c = grind (arith, nat_tests, common_steps)
+
+pub returns-then-address-eq0 : goal.returns-then-address-eq0
+unfolding marks_of
+returns-then-address-eq0 c = grind (arith, nat_tests, common_steps)
+
+pub returns-else-address-eq0 : goal.returns-else-address-eq0
+unfolding marks_of
+returns-else-address-eq0 c = grind (arith, nat_tests, common_steps)

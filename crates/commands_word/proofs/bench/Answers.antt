@@ -1,19 +1,21 @@
-use Rattle.commands_word.proofs.Laws.{chosen_here, chosen_later, chosen_none}
-use Rattle.commands.specs.Command.{bench_of}
+use Rattle.std.proofs.Common.{arith}
+use Rattle.std.proofs.lemmas.Grind.{common_steps}
+use Rattle.std.proofs.lemmas.Bool.Decides.{nat_tests}
+use Rattle.commands.specs.Command.{bench_of, chosen}
 use Rattle.commands_word.proofs.bench.Goals as goal
 
-pub returns-then-w-eq375 : goal.returns-then-w-eq375
-unfolding bench_of
-returns-then-w-eq375 c = search chosen_here
+pub returns-in-375 : goal.returns-in-375
+unfolding bench_of chosen
+returns-in-375 c = grind (arith, nat_tests, common_steps)
 
-pub returns-then-w-eq371 : goal.returns-then-w-eq371
-unfolding bench_of
-returns-then-w-eq371 c = search (chosen_here, chosen_later)
+pub returns-in-371 : goal.returns-in-371
+unfolding bench_of chosen
+returns-in-371 c = grind (arith, nat_tests, common_steps)
 
-pub returns-then-w-eq372 : goal.returns-then-w-eq372
-unfolding bench_of
-returns-then-w-eq372 c = search (chosen_here, chosen_later)
+pub returns-in-372 : goal.returns-in-372
+unfolding bench_of chosen
+returns-in-372 c = grind (arith, nat_tests, common_steps)
 
-pub returns : goal.returns
-unfolding bench_of
-returns c = search (chosen_later, chosen_none)
+pub returns-in_default : goal.returns-in_default
+unfolding bench_of chosen
+returns-in_default c = grind (arith, nat_tests, common_steps)

@@ -1,23 +1,25 @@
-use Rattle.commands_word.proofs.Laws.{chosen_here, chosen_later, chosen_other}
-use Rattle.commands.specs.Command.{data_of}
+use Rattle.std.proofs.Common.{arith}
+use Rattle.std.proofs.lemmas.Grind.{common_steps}
+use Rattle.std.proofs.lemmas.Bool.Decides.{nat_tests}
+use Rattle.commands.specs.Command.{data_of, chosen}
 use Rattle.commands_word.proofs.data.Goals as goal
 
-pub returns-then-w-eq375 : goal.returns-then-w-eq375
-unfolding data_of
-returns-then-w-eq375 c = search chosen_here
+pub returns-in-375 : goal.returns-in-375
+unfolding data_of chosen
+returns-in-375 c = grind (arith, nat_tests, common_steps)
 
-pub returns-then-w-eq370 : goal.returns-then-w-eq370
-unfolding data_of
-returns-then-w-eq370 c = search (chosen_here, chosen_later)
+pub returns-in-370 : goal.returns-in-370
+unfolding data_of chosen
+returns-in-370 c = grind (arith, nat_tests, common_steps)
 
-pub returns-then-w-eq371 : goal.returns-then-w-eq371
-unfolding data_of
-returns-then-w-eq371 c = search (chosen_here, chosen_later)
+pub returns-in-371 : goal.returns-in-371
+unfolding data_of chosen
+returns-in-371 c = grind (arith, nat_tests, common_steps)
 
-pub returns-then-w-eq367 : goal.returns-then-w-eq367
-unfolding data_of
-returns-then-w-eq367 c = search (chosen_here, chosen_later)
+pub returns-in-367 : goal.returns-in-367
+unfolding data_of chosen
+returns-in-367 c = grind (arith, nat_tests, common_steps)
 
-pub returns : goal.returns
-unfolding data_of
-returns c = search (chosen_later, chosen_other)
+pub returns-in_default : goal.returns-in_default
+unfolding data_of chosen
+returns-in_default c = grind (arith, nat_tests, common_steps)

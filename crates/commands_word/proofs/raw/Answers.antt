@@ -1,19 +1,21 @@
-use Rattle.commands_word.proofs.Laws.{chosen_here, chosen_later, chosen_none}
-use Rattle.commands.specs.Command.{raw_of}
+use Rattle.std.proofs.Common.{arith}
+use Rattle.std.proofs.lemmas.Grind.{common_steps}
+use Rattle.std.proofs.lemmas.Bool.Decides.{nat_tests}
+use Rattle.commands.specs.Command.{raw_of, chosen}
 use Rattle.commands_word.proofs.raw.Goals as goal
 
-pub returns-then-w-eq24273261 : goal.returns-then-w-eq24273261
-unfolding raw_of
-returns-then-w-eq24273261 c = search chosen_here
+pub returns-in-24273261 : goal.returns-in-24273261
+unfolding raw_of chosen
+returns-in-24273261 c = grind (arith, nat_tests, common_steps)
 
-pub returns-then-w-eq1569297951603 : goal.returns-then-w-eq1569297951603
-unfolding raw_of
-returns-then-w-eq1569297951603 c = search (chosen_here, chosen_later)
+pub returns-in-1569297951603 : goal.returns-in-1569297951603
+unfolding raw_of chosen
+returns-in-1569297951603 c = grind (arith, nat_tests, common_steps)
 
-pub returns-then-w-eq6013152364 : goal.returns-then-w-eq6013152364
-unfolding raw_of
-returns-then-w-eq6013152364 c = search (chosen_here, chosen_later)
+pub returns-in-6013152364 : goal.returns-in-6013152364
+unfolding raw_of chosen
+returns-in-6013152364 c = grind (arith, nat_tests, common_steps)
 
-pub returns : goal.returns
-unfolding raw_of
-returns c = search (chosen_later, chosen_none)
+pub returns-in_default : goal.returns-in_default
+unfolding raw_of chosen
+returns-in_default c = grind (arith, nat_tests, common_steps)

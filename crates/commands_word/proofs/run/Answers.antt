@@ -1,23 +1,25 @@
-use Rattle.commands_word.proofs.Laws.{chosen_here, chosen_later, chosen_other}
-use Rattle.commands.specs.Command.{run_of}
+use Rattle.std.proofs.Common.{arith}
+use Rattle.std.proofs.lemmas.Grind.{common_steps}
+use Rattle.std.proofs.lemmas.Bool.Decides.{nat_tests}
+use Rattle.commands.specs.Command.{run_of, chosen}
 use Rattle.commands_word.proofs.run.Goals as goal
 
-pub returns-then-w-eq372 : goal.returns-then-w-eq372
-unfolding run_of
-returns-then-w-eq372 c = search chosen_here
+pub returns-in-372 : goal.returns-in-372
+unfolding run_of chosen
+returns-in-372 c = grind (arith, nat_tests, common_steps)
 
-pub returns-then-w-eq358 : goal.returns-then-w-eq358
-unfolding run_of
-returns-then-w-eq358 c = search (chosen_here, chosen_later)
+pub returns-in-358 : goal.returns-in-358
+unfolding run_of chosen
+returns-in-358 c = grind (arith, nat_tests, common_steps)
 
-pub returns-then-w-eq374 : goal.returns-then-w-eq374
-unfolding run_of
-returns-then-w-eq374 c = search (chosen_here, chosen_later)
+pub returns-in-374 : goal.returns-in-374
+unfolding run_of chosen
+returns-in-374 c = grind (arith, nat_tests, common_steps)
 
-pub returns-then-w-eq1590839960948 : goal.returns-then-w-eq1590839960948
-unfolding run_of
-returns-then-w-eq1590839960948 c = search (chosen_here, chosen_later)
+pub returns-in-1590839960948 : goal.returns-in-1590839960948
+unfolding run_of chosen
+returns-in-1590839960948 c = grind (arith, nat_tests, common_steps)
 
-pub returns : goal.returns
-unfolding run_of
-returns c = search (chosen_later, chosen_other)
+pub returns-in_default : goal.returns-in_default
+unfolding run_of chosen
+returns-in_default c = grind (arith, nat_tests, common_steps)

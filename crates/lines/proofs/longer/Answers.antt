@@ -1,11 +1,9 @@
-use Rattle.lines.proofs.Laws.{longer_product, longer_sum, longer_is}
+use Rattle.std.proofs.Common.{rules}
+use Rattle.lines.proofs.Laws.{longer_other, longer_digit}
 use Rattle.lines.proofs.longer.Goals as goal
 
-pub overflow_mul-least : goal.overflow_mul-least
-overflow_mul-least c = search longer_product
-
-pub overflow_add-least : goal.overflow_add-least
-overflow_add-least c = search longer_sum
+pub returns-in_err-digit : goal.returns-in_err-digit
+returns-in_err-digit c = search (longer_other, rules)
 
 pub returns : goal.returns
-returns c = search longer_is
+returns c = search (longer_digit, rules)
