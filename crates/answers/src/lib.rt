@@ -114,6 +114,7 @@ pub fn bench_number(out: &mut Output, number: u8)
     }
 }
 
+// `bench` says which program answers here and below: `write_answer`, `inward_answer` and `tick_answer` are defined over it.
 pub fn write_answer(out: &mut Output, bench: bool, number: u8)
     ensures { Puts (write_answer bench number) out.old out.new }
 {

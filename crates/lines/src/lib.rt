@@ -15,7 +15,8 @@ pub struct Field {
 }
 
 // A line so far: whether it has a byte, whether the first is #, the field that runs, the first 34 that have ended, how many
-// have, up to 34, and whether all after the first are halfwords.
+// have, up to 34, and whether all after the first are halfwords. The fields are an array with a count beside it, in fixed memory: the
+// tests of a command (`field_at`) read fields past the count too.
 #[derive(Clone, Copy)]
 pub struct Line {
     pub begun: bool,
