@@ -76,7 +76,7 @@ impl Phase {
         )
     }
 
-    // Its rate, out of the two ADSR halfwords.
+    // Its rate, out of the two ADSR halfwords. They come as two numbers, as the definitions have them, and callers read them from two places.
     pub fn rate(self, low: u16, high: u16) -> Rate
         ensures { result ≡ rate_of self low high }
     {
