@@ -5,6 +5,7 @@
 
 Without COMMIT it reads the files as they stand. With POINT it lists the places of that point, one a line.
 """
+import os
 import re
 import subprocess
 import sys
@@ -14,11 +15,10 @@ from collections import defaultdict
 def files(commit):
     if commit is None:
         out = subprocess.run(["git", "ls-files", "crates/*/src/*.rt"], capture_output=True, text=True, check=True).stdout
-        return {p: open(p, encoding="utf-8").read() for p in out.split() if __import__("os").path.exists(p)}
+        return {p: open(p, encoding="utf-8").read() for p in out.split() if os.path.exists(p)}
     out = subprocess.run(["git", "ls-tree", "-r", "--name-only", commit, "crates"], capture_output=True, text=True, check=True).stdout
     paths = [p for p in out.split() if re.fullmatch(r"crates/[^/]+/src/.*\.rt", p)]
-    show = lambda p: subprocess.run(["git", "show", f"{commit}:{p}"], capture_output=True, text=True, check=True).stdout
-    return {p: show(p) for p in paths}
+    return {p: subprocess.run(["git", "show", f"{commit}:{p}"], capture_output=True, text=True, check=True).stdout for p in paths}
 
 
 def code(text):
