@@ -4,7 +4,7 @@ use mathlib.Core.Bool.{Bool, true, false, cond, not, ◌&&◌, ◌||◌}
 use mathlib.Core.List.{List, [], ◌∷◌}
 use Prim.Native.Nat.{ℕ, ◌/◌}
 use native.Mathlib.Omega.{arith}
-use borrow.Author.Tests.{eq-eqb, ne_eqb, not-true, not-false}
+use borrow.Author.Tests.{eq-eqb, ne_eqb, not-false}
 use lib.Dec.{eqb}
 use lib.ListN.{length}
 use Rattle.fixed.proofs.Bools.{and_first, and_rest}
@@ -14,9 +14,10 @@ use Rattle.soundram.specs.Program.{Prog, mem_of, Does}
 use Rattle.soundram.specs.Calls.{Reply, still, works, outcome}
 use Rattle.chip.specs.State.{State, state_ok, watch_of, watched_of}
 use Rattle.chip.specs.Range.{InRange}
-use Rattle.layout.specs.Layout.{state_of, is_tagged, is_well_formed, is_state, Holds, Halfwords}
+use Rattle.layout.specs.Layout.{state_length, state_of, is_tagged, is_well_formed, is_state, Holds, Halfwords}
 use Rattle.layout.proofs.Laws.{form_tagged, formed, registers_count, voices_count}
 use Rattle.layout.proofs.Encoding.{holds_buffer}
+use Rattle.range_check.proofs.Tests.{other_length}
 use Rattle.spu.specs.Step.{Call, Answer, Test, first_of, outside, lent_tests, tests_of, number_of, refused_of, accepted_of, step_of, outcome_of, Leaves}
 use Rattle.spu.proofs.Range.{tests_good, passed_first, passed_rest, stays_in_range}
 use Rattle.spu.proofs.Lent.{lent_all, leaves_still, leaves_works}
@@ -117,11 +118,15 @@ module _ (c : Call) (xs r m : List ℕ) {n : ℕ} (e : n ≡ number_in c xs (len
 
 -- ---- the first test that applies, of a buffer with a state's tag
 
-pub tagged_not : (xs : List ℕ) (ts : List Test) {t : Bool} → t ≡ is_tagged xs → not t ≡ true → 2 ≡ tested_of xs ts
-tagged_not xs ts e f = rw (sym e ∙ not-true _ f)
+pub tagged_not : (xs : List ℕ) (ts : List Test) → is_tagged xs ≡ false → 2 ≡ tested_of xs ts
+tagged_not xs ts t = rw t
 
-pub tagged_yes : (xs : List ℕ) (ts : List Test) {t : Bool} {n : ℕ} → t ≡ is_tagged xs → not t ≡ false → n ≡ first_of ts → n ≡ tested_of xs ts
-tagged_yes xs ts e f g = rw (sym e ∙ not-false _ f) g
+pub tagged_yes : (xs : List ℕ) (ts : List Test) {n : ℕ} → is_tagged xs ≡ true → n ≡ first_of ts → n ≡ tested_of xs ts
+tagged_yes xs ts t f = rw t f
+
+-- a buffer of another length has no tag
+pub other_not : (xs : List ℕ) (ts : List Test) → (length xs ≡ state_length → ⊥) → 2 ≡ tested_of xs ts
+other_not xs ts h = tagged_not xs ts (other_length xs h)
 
 -- a number that other tests before it give: n is theirs
 pub tested_more : (xs : List ℕ) (ss ts : List Test) {n : ℕ} → n ≡ tested_of xs ss → (n ≡ 0 → ⊥) → (n ≡ first_of ss → n ≡ first_of ts) → n ≡ tested_of xs ts
@@ -173,25 +178,32 @@ module _ (xs ram marks : List ℕ) (ts : List Test) {n : ℕ} (e : n ≡ tested_
   pub lent_lent : Lent (state_of xs).choices.size ram marks
   lent_lent = lent_all (is_state xs) (state_of xs) (state_ok_lem xs) ts ram marks (tested_all xs _ e z) z
 
--- ---- the code's tests, t that of the tag, z the L in the buffer, a that of the whole state
+-- ---- the code's tests of the tagged buffer ys, which is xs: z is the L in it, a the test of the whole state
 
-pub tagged_is : (xs : List ℕ) {t : Bool} → t ≡ is_tagged xs → not t ≡ false → is_tagged xs ≡ true
-tagged_is xs e f = sym e ∙ not-false _ f
+module _ (xs : List ℕ) {ys : List ℕ} (t : (ys ≡ xs) × (is_tagged xs ≡ true)) where
+  pub tagged_is : is_tagged ys ≡ true
+  tagged_is = rw t.0 t.1
 
-module _ (xs : List ℕ) (ram marks : ℕ) {t : Bool} {z : ℕ} (e : t ≡ is_tagged xs) (f : not t ≡ false) (ez : z ≡ (state_of xs).choices.size) where
-  pub lent_is_1 : (not (eqb ram z) || not (eqb marks (z / 16))) ≡ true → 1 ≡ tested_of xs (lent_tests (is_state xs) (state_of xs) ram marks [])
-  lent_is_1 q = tagged_yes xs _ e f (lent_1 (is_state xs) (state_of xs) ram marks [] (rw ez at q))
+  pub size_is : {z : ℕ} → z ≡ (state_of ys).choices.size → z ≡ (state_of xs).choices.size
+  size_is e = rw t.0 at e
 
-  module _ {a : Bool} (ea : a ≡ is_state xs) (q : (not (eqb ram z) || not (eqb marks (z / 16))) ≡ false) where
-    pub lent_is_2 : not a ≡ true → 2 ≡ tested_of xs (lent_tests (is_state xs) (state_of xs) ram marks [])
-    lent_is_2 n = tagged_yes xs _ e f (lent_2 (is_state xs) (state_of xs) ram marks [] (rw ez at q) ea n)
+  pub test_is : {a : Bool} → a ≡ is_state ys → a ≡ is_state xs
+  test_is e = rw t.0 at e
 
-    pub lent_is_0 : not a ≡ false → 0 ≡ tested_of xs (lent_tests (is_state xs) (state_of xs) ram marks [])
-    lent_is_0 n = tagged_yes xs _ e f (lent_0 (is_state xs) (state_of xs) ram marks (rw ez at q) ea n)
+  module _ (ram marks : ℕ) {z : ℕ} (ez : z ≡ (state_of ys).choices.size) where
+    pub lent_is_1 : (not (eqb ram z) || not (eqb marks (z / 16))) ≡ true → 1 ≡ tested_of xs (lent_tests (is_state xs) (state_of xs) ram marks [])
+    lent_is_1 q = tagged_yes xs _ t.1 (lent_1 (is_state xs) (state_of xs) ram marks [] (rw (size_is ez) at q))
 
-module _ (xs : List ℕ) {t a : Bool} (e : t ≡ is_tagged xs) (f : not t ≡ false) (ea : a ≡ is_state xs) where
-  pub state_is_2 : not a ≡ true → 2 ≡ tested_of xs (outside (is_state xs) ∷ [])
-  state_is_2 n = tagged_yes xs _ e f (here _ 2 _ (rw (← ea) n))
+    module _ {a : Bool} (ea : a ≡ is_state ys) (q : (not (eqb ram z) || not (eqb marks (z / 16))) ≡ false) where
+      pub lent_is_2 : not a ≡ true → 2 ≡ tested_of xs (lent_tests (is_state xs) (state_of xs) ram marks [])
+      lent_is_2 n = tagged_yes xs _ t.1 (lent_2 (is_state xs) (state_of xs) ram marks [] (rw (size_is ez) at q) (test_is ea) n)
 
-  pub state_is_0 : not a ≡ false → 0 ≡ tested_of xs (outside (is_state xs) ∷ [])
-  state_is_0 n = tagged_yes xs _ e f (later _ 2 _ (rw (← ea) n) numbers.none)
+      pub lent_is_0 : not a ≡ false → 0 ≡ tested_of xs (lent_tests (is_state xs) (state_of xs) ram marks [])
+      lent_is_0 n = tagged_yes xs _ t.1 (lent_0 (is_state xs) (state_of xs) ram marks (rw (size_is ez) at q) (test_is ea) n)
+
+  module _ {a : Bool} (ea : a ≡ is_state ys) where
+    pub state_is_2 : not a ≡ true → 2 ≡ tested_of xs (outside (is_state xs) ∷ [])
+    state_is_2 n = tagged_yes xs _ t.1 (here _ 2 _ (rw (← test_is ea) n))
+
+    pub state_is_0 : not a ≡ false → 0 ≡ tested_of xs (outside (is_state xs) ∷ [])
+    state_is_0 n = tagged_yes xs _ t.1 (later _ 2 _ (rw (← test_is ea) n) numbers.none)

@@ -2,11 +2,13 @@
 // which host/tenonwhisk.h declares.
 #![tactic(auto)]
 
-ghost use Rattle.std.specs.Prelude.{◌≡◌, [], ◌∷◌, ◌<◌};
+ghost use Rattle.std.specs.Prelude.{◌≡◌, [], ◌∷◌, ◌<◌, IfOk};
 ghost use Rattle.layout.specs.Layout.{state_of, is_state};
 ghost use Rattle.spu.specs.Step.{outside, lent_tests};
 ghost use Rattle.calls.specs.Kept.{tested_of};
 ghost use Rattle.calls.specs.Refusals.{number_of, answered};
+
+use layout::Buffer;
 
 // Why a call is refused, with the number that hosts get.
 #[derive(Clone, Copy, Debug, PartialEq, Eq)]
@@ -35,32 +37,32 @@ impl Refusal {
     }
 }
 
-// Whether a state stands in the buffer.
-pub fn check_state(state: &[u16]) -> Result<(), Refusal>
-    ensures { answered result ≡ tested_of state.now (outside (is_state state.now) ∷ []) }
+// The buffer, if a state stands in it.
+pub fn check_state(state: &[u16]) -> Result<&Buffer, Refusal>
+    ensures { (answered result ≡ tested_of state.now (outside (is_state state.now) ∷ [])) × IfOk result (λ b. b.now ≡ state.now) }
 {
-    if !range_check::is_tagged(state) {
+    let Some(buffer) = range_check::tagged(state) else {
+        return Err(Refusal::NotAState);
+    };
+    if !range_check::check(buffer) {
         return Err(Refusal::NotAState);
     }
-    if !range_check::check(state) {
-        return Err(Refusal::NotAState);
-    }
-    Ok(())
+    Ok(buffer)
 }
 
-// Whether a state stands in the buffer, and what is lent beside it has the lengths that its L asks: ram and marks.
-pub fn check_lent(state: &[u16], ram: usize, marks: usize) -> Result<(), Refusal>
-    ensures { answered result ≡ tested_of state.now (lent_tests (is_state state.now) (state_of state.now) ram marks []) }
+// The buffer, if a state stands in it and what is lent beside it has the lengths that its L asks: ram and marks.
+pub fn check_lent(state: &[u16], ram: usize, marks: usize) -> Result<&Buffer, Refusal>
+    ensures { (answered result ≡ tested_of state.now (lent_tests (is_state state.now) (state_of state.now) ram marks [])) × IfOk result (λ b. b.now ≡ state.now) }
 {
-    if !range_check::is_tagged(state) {
+    let Some(buffer) = range_check::tagged(state) else {
         return Err(Refusal::NotAState);
-    }
-    let size = layout::size(state) as usize;
+    };
+    let size = layout::size(buffer) as usize;
     if (ram != size) | (marks != size / 16) {
         return Err(Refusal::OtherLength);
     }
-    if !range_check::check(state) {
+    if !range_check::check(buffer) {
         return Err(Refusal::NotAState);
     }
-    Ok(())
+    Ok(buffer)
 }

@@ -143,9 +143,6 @@ module _ (xs : List ℕ) {n : ℕ} (e : n ≡ tested_of xs (outside (is_state xs
   unfolding accepted_of
   status_yes z d s t w = rw (z, d, s, t) (same_yes status xs status_same status_number z refl w)
 
-  pub good_length : n ≡ 0 → length xs ≡ state_length
-  good_length z = (state_formed xs (accepted_state status xs 0 0 status_number z)).size
-
   reset_number : n ≡ number_in reset xs 0 0
   unfolding number_in
   reset_number = e

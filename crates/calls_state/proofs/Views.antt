@@ -17,24 +17,30 @@ use Rattle.spu.specs.Step.{view, viewed, test, first_of, outside, bad_block, num
 use Rattle.spu.proofs.Range.{passed_first, passed_rest}
 use Rattle.spu.proofs.Numbers.{here, later, none}
 use Rattle.calls.specs.Kept.{number_in, Keeps, view_of, view_length}
-use Rattle.calls.proofs.Kept.{state_ok_lem, accepted_state, accepted_number, kept_refused, kept_still, tagged_not, tagged_yes}
+use Rattle.calls.proofs.Kept.{state_ok_lem, accepted_state, accepted_number, kept_refused, kept_still, tagged_not, tagged_yes, size_is, test_is}
 
--- ---- its number: t is the code's test of the tag, z the L in the buffer, b the code's test of the whole state
+-- ---- its number: ys is the tagged buffer that xs is, z the L in it, b the code's test of the whole state
 
-module _ (xs : List ℕ) (a ram : ℕ) {t : Bool} (e : t ≡ is_tagged xs) where
-  pub view_untagged : not t ≡ true → 2 ≡ number_in (view a) xs ram 0
+module _ (xs : List ℕ) (a ram : ℕ) where
+  pub view_untagged : is_tagged xs ≡ false → 2 ≡ number_in (view a) xs ram 0
   unfolding number_in
-  view_untagged f = tagged_not xs _ e f
+  view_untagged t = tagged_not xs _ t
 
-  module _ (f : not t ≡ false) {z : ℕ} (ez : z ≡ (state_of xs).choices.size) where
+  module _ {ys : List ℕ} (t : (ys ≡ xs) × (is_tagged xs ≡ true)) {z : ℕ} (ey : z ≡ (state_of ys).choices.size) where
+    ez : z ≡ (state_of xs).choices.size
+    ez = size_is xs t ey
+
     pub view_1 : (ram ≡ z → ⊥) → 1 ≡ number_in (view a) xs ram 0
     unfolding number_in
-    view_1 q = tagged_yes xs _ e f (here _ 1 _ (rw (← ez, ne_eqb ram z q)))
+    view_1 q = tagged_yes xs _ t.1 (here _ 1 _ (rw (← ez, ne_eqb ram z q)))
 
-    module _ (q : ram ≡ z) {b : Bool} (eb : b ≡ is_state xs) where
+    module _ (q : ram ≡ z) {b : Bool} (eu : b ≡ is_state ys) where
+      eb : b ≡ is_state xs
+      eb = test_is xs t eu
+
       passed_1 : {n : ℕ} → n ≡ first_of (outside (is_state xs) ∷ test (bad_block (state_of xs) a) 8 ∷ []) → n ≡ number_in (view a) xs ram 0
       unfolding number_in
-      passed_1 g = tagged_yes xs _ e f (later _ 1 _ (rw (← ez, eq-eqb ram z q)) g)
+      passed_1 g = tagged_yes xs _ t.1 (later _ 1 _ (rw (← ez, eq-eqb ram z q)) g)
 
       pub view_2 : not b ≡ true → 2 ≡ number_in (view a) xs ram 0
       view_2 u = passed_1 (here _ 2 _ (rw (← eb) u))

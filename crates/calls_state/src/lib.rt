@@ -1,7 +1,7 @@
 // Calls on a lent state: make, reset, status, register writes and reads, and the block view.
 #![tactic(auto)]
 
-ghost use Rattle.std.specs.Prelude.{◌≡◌, false, cond, List, ℕ, length};
+ghost use Rattle.std.specs.Prelude.{◌≡◌, false, cond, List, ℕ, length, IfOk};
 ghost use Rattle.chip.specs.State.{fresh_of, size_ok};
 ghost use Rattle.layout.specs.Layout.{state_length, Holds};
 ghost use Rattle.spu.specs.Step.{written, value as valued, made, viewed, looked, write as writing, read as reading, reset as resetting, view, status as looking};
@@ -9,6 +9,7 @@ ghost use Rattle.calls.specs.Kept.{number_in, Keeps, KeepsStill, make_of, view_o
 ghost use Rattle.calls.specs.Refusals.{answered};
 
 use calls::Refusal;
+use layout::Buffer;
 
 #[repr(C)]
 #[derive(Clone, Copy)]
@@ -31,17 +32,17 @@ pub extern "C" fn tenonwhisk_make(size: u32, state: &mut [u16]) -> u8
     ensures { (record { number = result; state = state.new } ≡ make_of size state.old) × (length state.old ≡ state_length → Holds state.new (fresh_of (cond (size_ok size) size 0x10000))) }
 {
     let good = range_check::size_ok(size);
-    if state.len() != layout::LENGTH {
+    let Some(buffer) = state.as_mut_array() else {
         if good {
             return 2;
         }
         return 1;
-    }
+    };
     if good {
-        layout::fresh(state, size);
+        layout::fresh(buffer, size);
         return 0;
     }
-    layout::fresh(state, 0x10000);
+    layout::fresh(buffer, 0x10000);
     1
 }
 
@@ -49,11 +50,14 @@ pub extern "C" fn tenonwhisk_make(size: u32, state: &mut [u16]) -> u8
 pub extern "C" fn tenonwhisk_reset(state: &mut [u16]) -> u8
     ensures { KeepsStill resetting state.old (made result) state.new }
 {
-    if let Err(refusal) = calls::check_state(state) {
+    let Some(buffer) = state.as_mut_array() else {
+        return Refusal::NotAState.number();
+    };
+    if let Err(refusal) = calls::check_state(buffer) {
         return refusal.number();
     }
-    let size = layout::size(state);
-    layout::fresh(state, size);
+    let size = layout::size(buffer);
+    layout::fresh(buffer, size);
     0
 }
 
@@ -61,20 +65,19 @@ pub extern "C" fn tenonwhisk_reset(state: &mut [u16]) -> u8
 pub extern "C" fn tenonwhisk_status(state: &[u16]) -> Status
     ensures { KeepsStill looking state.now (looked result.number result.doubt result.size result.tick) state.now }
 {
-    if let Err(refusal) = calls::check_state(state) {
-        return Status {
+    match calls::check_state(state) {
+        Ok(buffer) => Status {
+            number: 0,
+            doubt: layout::control(buffer).doubt,
+            size: layout::size(buffer),
+            tick: layout::tick(buffer),
+        },
+        Err(refusal) => Status {
             number: refusal.number(),
             doubt: false,
             size: 0,
             tick: 0,
-        };
-    }
-    let control = layout::control(state);
-    Status {
-        number: 0,
-        doubt: control.doubt,
-        size: layout::size(state),
-        tick: layout::tick(state),
+        },
     }
 }
 
@@ -101,39 +104,42 @@ fn check_write(state: &[u16], offset: u32, value: u16) -> Result<(), Refusal>
 pub extern "C" fn tenonwhisk_write(state: &mut [u16], offset: u32, value: u16) -> u8
     ensures { KeepsStill (writing offset value) state.old (written result) state.new }
 {
-    if let Err(refusal) = check_write(state, offset, value) {
+    let Some(buffer) = state.as_mut_array() else {
+        return Refusal::NotAState.number();
+    };
+    if let Err(refusal) = check_write(buffer, offset, value) {
         return refusal.number();
     }
-    register_write::write(state, offset, value);
+    register_write::write(buffer, offset, value);
     0
 }
 
-fn check_read(state: &[u16], offset: u32) -> Result<(), Refusal>
-    ensures { answered result ≡ number_in (reading offset) state.now 0 0 }
+fn check_read(state: &[u16], offset: u32) -> Result<&Buffer, Refusal>
+    ensures { (answered result ≡ number_in (reading offset) state.now 0 0) × IfOk result (λ b. b.now ≡ state.now) }
 {
-    calls::check_state(state)?;
+    let buffer = calls::check_state(state)?;
     if !registers::listed(offset) {
         return Err(Refusal::UnlistedOffset);
     }
     if offset == 0x1A8 {
         return Err(Refusal::NotCarried);
     }
-    Ok(())
+    Ok(buffer)
 }
 
 #[unsafe(no_mangle)]
 pub extern "C" fn tenonwhisk_read(state: &[u16], offset: u32) -> Reading
     ensures { KeepsStill (reading offset) state.now (valued result.number result.value) state.now }
 {
-    if let Err(refusal) = check_read(state, offset) {
-        return Reading {
+    match check_read(state, offset) {
+        Ok(buffer) => Reading {
+            number: 0,
+            value: register_read::read(buffer, offset),
+        },
+        Err(refusal) => Reading {
             number: refusal.number(),
             value: 0,
-        };
-    }
-    Reading {
-        number: 0,
-        value: register_read::read(state, offset),
+        },
     }
 }
 
@@ -141,14 +147,14 @@ pub extern "C" fn tenonwhisk_read(state: &[u16], offset: u32) -> Reading
 fn check_view(state: &[u16], ram: usize, address: u32) -> Result<(), Refusal>
     ensures { answered result ≡ number_in (view address) state.now ram 0 }
 {
-    if !range_check::is_tagged(state) {
+    let Some(buffer) = range_check::tagged(state) else {
         return Err(Refusal::NotAState);
-    }
-    let size = layout::size(state);
+    };
+    let size = layout::size(buffer);
     if ram != size as usize {
         return Err(Refusal::OtherLength);
     }
-    if !range_check::check(state) {
+    if !range_check::check(buffer) {
         return Err(Refusal::NotAState);
     }
     if (address % 8 != 0) | (size - 16 < address) {

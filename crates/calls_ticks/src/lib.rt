@@ -1,7 +1,7 @@
 // Calls on a lent state: one tick, and many.
 #![tactic(auto)]
 
-ghost use Rattle.std.specs.Prelude.{◌≡◌, map, length};
+ghost use Rattle.std.specs.Prelude.{◌≡◌, false, pos, map, length};
 ghost use Rattle.stereo.specs.Float.{float_of};
 ghost use Rattle.layout.specs.Layout.{state_of, is_state};
 ghost use Rattle.spu.specs.Step.{pair, floats as floated, ran, ran_floats, tick as ticking, tick_floats, run as running, run_floats, lent_tests, run_tests};
@@ -40,6 +40,18 @@ pub struct Ran {
     pub doubt: usize,
 }
 
+fn not_ticked(refusal: Refusal) -> Ticked
+    ensures { result ≡ record { number = number_of refusal; irq = false; doubt = false; left = pos 0; right = pos 0 } }
+{
+    Ticked {
+        number: refusal.number(),
+        irq: false,
+        doubt: false,
+        left: 0,
+        right: 0,
+    }
+}
+
 // One tick, with a raw pair from the CD.
 #[unsafe(no_mangle)]
 pub extern "C" fn tenonwhisk_tick(
@@ -51,18 +63,15 @@ pub extern "C" fn tenonwhisk_tick(
 ) -> Ticked
     ensures { Keeps (ticking left right) state.old ram.old marks.old (pair result.number (record { left = result.left; right = result.right })) result.irq result.doubt state.new ram.new marks.new }
 {
-    if let Err(refusal) = calls::check_lent(state, ram.len(), marks.len()) {
-        return Ticked {
-            number: refusal.number(),
-            irq: false,
-            doubt: false,
-            left: 0,
-            right: 0,
-        };
+    let Some(buffer) = state.as_mut_array() else {
+        return not_ticked(Refusal::NotAState);
+    };
+    if let Err(refusal) = calls::check_lent(buffer, ram.len(), marks.len()) {
+        return not_ticked(refusal);
     }
     let cd = [left, right];
     let mut out = [0i16; 2];
-    let r = tick_runs::run(state, ram, marks, &cd, &mut out);
+    let r = tick_runs::run(buffer, ram, marks, &cd, &mut out);
     Ticked {
         number: 0,
         irq: r.irq == 0,
@@ -127,11 +136,14 @@ pub extern "C" fn tenonwhisk_run(
 ) -> Ran
     ensures { Keeps (running cd.now out.old) state.old ram.old marks.old (ran result.number result.count result.irq result.doubt out.new) (reports result.irq result.count) (reports result.doubt result.count) state.new ram.new marks.new }
 {
-    if let Err(refusal) = check_run(state, ram.len(), marks.len(), cd.len(), out.len()) {
+    let Some(buffer) = state.as_mut_array() else {
+        return refused(Refusal::NotAState);
+    };
+    if let Err(refusal) = check_run(buffer, ram.len(), marks.len(), cd.len(), out.len()) {
         return refused(refusal);
     }
     let count = out.len() / 2;
-    let r = tick_runs::run(state, ram, marks, cd, out);
+    let r = tick_runs::run(buffer, ram, marks, cd, out);
     Ran {
         number: 0,
         count,
@@ -162,14 +174,17 @@ pub extern "C" fn tenonwhisk_run_floats(
 ) -> Ran
     ensures { Keeps (run_floats cd.now out.old floats.old) state.old ram.old marks.old (ran_floats result.number result.count result.irq result.doubt out.new floats.new) (reports result.irq result.count) (reports result.doubt result.count) state.new ram.new marks.new }
 {
-    if let Err(refusal) = check_run(state, ram.len(), marks.len(), cd.len(), out.len()) {
+    let Some(buffer) = state.as_mut_array() else {
+        return refused(Refusal::NotAState);
+    };
+    if let Err(refusal) = check_run(buffer, ram.len(), marks.len(), cd.len(), out.len()) {
         return refused(refusal);
     }
     if floats.len() != out.len() {
         return refused(Refusal::BadBuffers);
     }
     let count = out.len() / 2;
-    let r = tick_runs::run(state, ram, marks, cd, out);
+    let r = tick_runs::run(buffer, ram, marks, cd, out);
     to_floats(out, floats);
     Ran {
         number: 0,

@@ -3,13 +3,14 @@
 
 ghost use Rattle.std.specs.Prelude.{◌≡◌, false, ◌&&◌, not, ◌%◌, length};
 ghost use Rattle.chip.specs.State.{with_transfer, watched_of};
-ghost use Rattle.layout.specs.Layout.{state_length, state_of, is_state, Formed, Holds, Halfwords};
+ghost use Rattle.layout.specs.Layout.{state_of, is_state, Formed, Holds};
 ghost use Rattle.spu.specs.Step.{moved, moved_out, transfer_in, transfer_out, bad_count, lent_tests, move_tests};
 ghost use Rattle.calls.specs.Kept.{tested_of, Keeps};
 ghost use Rattle.calls.specs.Refusals.{number_of, answered};
 ghost use Rattle.calls_transfer.specs.Direction.{other_mode};
 
 use calls::Refusal;
+use layout::Buffer;
 use soundram::Watch;
 use transfer::Moved as Ended;
 
@@ -36,8 +37,7 @@ fn bad_count(n: usize) -> bool
     (n == 0) | (32 < n)
 }
 
-fn is_other_mode(state: &[u16], direction: Direction) -> bool
-    requires { length state.now ≡ state_length }
+fn is_other_mode(state: &Buffer, direction: Direction) -> bool
     ensures { result ≡ other_mode direction (state_of state.now) }
 {
     let mode = layout::control(state).applied / 16 % 4;
@@ -57,8 +57,8 @@ fn check(
 ) -> Result<(), Refusal>
     ensures { answered result ≡ tested_of state.now (lent_tests (is_state state.now) (state_of state.now) ram marks (move_tests (other_mode direction (state_of state.now)) count)) }
 {
-    calls::check_lent(state, ram, marks)?;
-    if is_other_mode(state, direction) {
+    let buffer = calls::check_lent(state, ram, marks)?;
+    if is_other_mode(buffer, direction) {
         return Err(Refusal::OtherMode);
     }
     if bad_count(count) {
@@ -79,9 +79,9 @@ fn refused(refusal: Refusal) -> Moved
 }
 
 // Puts the address and what was watched in place once count halfwords have moved; w was watched before.
-fn accepted(state: &mut [u16], count: u32, w: Watch, m: Ended) -> Moved
+fn accepted(state: &mut Buffer, count: u32, w: Watch, m: Ended) -> Moved
     requires { Formed state.old × (m.value.0 % 2 ≡ 0) }
-    ensures { (result ≡ record { number = 0; irq = m.watch.latch && not w.latch; doubt = m.watch.doubt && not w.doubt; count = count }) × Holds state.new (watched_of (with_transfer (state_of state.old) m.value) m.watch) × Halfwords state.new }
+    ensures { (result ≡ record { number = 0; irq = m.watch.latch && not w.latch; doubt = m.watch.doubt && not w.doubt; count = count }) × Holds state.new (watched_of (with_transfer (state_of state.old) m.value) m.watch) }
 {
     layout::put_transfer(state, m.value);
     layout::put_watch(state, m.watch);
@@ -103,8 +103,11 @@ pub extern "C" fn tenonwhisk_transfer_in(
 ) -> Moved
     ensures { Keeps (transfer_in values.now) state.old ram.old marks.old (moved result.number result.count) result.irq result.doubt state.new ram.new marks.new }
 {
+    let Some(buffer) = state.as_mut_array() else {
+        return refused(Refusal::NotAState);
+    };
     if let Err(refusal) = check(
-        state,
+        buffer,
         Direction::Inward,
         ram.len(),
         marks.len(),
@@ -113,11 +116,11 @@ pub extern "C" fn tenonwhisk_transfer_in(
         return refused(refusal);
     }
     let count = values.len() as u32;
-    let size = layout::size(state);
-    let a = layout::transfer(state);
-    let w = layout::watch(state);
+    let size = layout::size(buffer);
+    let a = layout::transfer(buffer);
+    let w = layout::watch(buffer);
     let m = transfer::inward(ram, marks, size, a, values, w);
-    accepted(state, count, w, m)
+    accepted(buffer, count, w, m)
 }
 
 // Halfwords out of sound RAM, as many as the buffer holds.
@@ -130,13 +133,22 @@ pub extern "C" fn tenonwhisk_transfer_out(
 ) -> Moved
     ensures { Keeps (transfer_out out.old) state.old ram.now marks.now (moved_out result.number result.count out.new) result.irq result.doubt state.new ram.now marks.now }
 {
-    if let Err(refusal) = check(state, Direction::Outward, ram.len(), marks.len(), out.len()) {
+    let Some(buffer) = state.as_mut_array() else {
+        return refused(Refusal::NotAState);
+    };
+    if let Err(refusal) = check(
+        buffer,
+        Direction::Outward,
+        ram.len(),
+        marks.len(),
+        out.len(),
+    ) {
         return refused(refusal);
     }
     let count = out.len() as u32;
-    let size = layout::size(state);
-    let a = layout::transfer(state);
-    let w = layout::watch(state);
+    let size = layout::size(buffer);
+    let a = layout::transfer(buffer);
+    let w = layout::watch(buffer);
     let m = transfer::outward(ram, marks, size, a, out, w);
-    accepted(state, count, w, m)
+    accepted(buffer, count, w, m)
 }

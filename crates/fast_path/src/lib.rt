@@ -1,14 +1,15 @@
 // The fast path of a tick: a voice that stays in its block. What it gives and where it comes to, but for its envelope's step, read out of the buffer.
 #![tactic(auto)]
 
-ghost use Rattle.std.specs.Prelude.{◌≡◌, ◌+◌, ◌≤◌, ◌<◌, length};
+ghost use Rattle.std.specs.Prelude.{◌≡◌, ◌+◌, ◌≤◌, ◌<◌};
 ghost use Rattle.pitch.specs.Pitch.{moved_of};
 ghost use Rattle.voice.specs.Voice.{sound_of, amplitude_of, movement_of, target_of};
 ghost use Rattle.voices.specs.Voices.{settings_of};
-ghost use Rattle.layout.specs.Layout.{state_length, voice_in};
+ghost use Rattle.layout.specs.Layout.{voice_in};
 ghost use Rattle.fast_path.specs.Steady.{Toned, steady_of, Steps};
 
 use gauss::Table;
+use layout::Buffer;
 use std::array;
 use voice::Settings;
 use voices::AllSettings;
@@ -54,8 +55,8 @@ pub fn steps(all: &AllSettings<'_>) -> [Option<u16>; 24]
 }
 
 // What voice n gives before its envelope: its samples, interpolated, or the noise.
-fn sound(table: &Table, s: Settings, level: u16, state: &[u16], n: usize) -> i16
-    requires { (n < 24) × (length state.now ≡ state_length) × ((voice_in state.now n).position.index ≤ 27) }
+fn sound(table: &Table, s: Settings, level: u16, state: &Buffer, n: usize) -> i16
+    requires { (n < 24) × ((voice_in state.now n).position.index ≤ 27) }
     ensures { result ≡ sound_of s level (voice_in state.now n) }
 {
     if s.noise {
@@ -74,8 +75,8 @@ fn sound(table: &Table, s: Settings, level: u16, state: &[u16], n: usize) -> i16
 }
 
 // What voice n gives by these settings, and where the pitch step leads it.
-fn moved(table: &Table, state: &[u16], n: usize, s: Settings, level: u16, step: u16) -> Stayed
-    requires { (n < 24) × (length state.now ≡ state_length) × ((voice_in state.now n).position.counter < 0x1000) × ((voice_in state.now n).position.index ≤ 27) × ((voice_in state.now n).envelope.level ≤ 0x7FFF) × (step ≤ 0x4000) }
+fn moved(table: &Table, state: &Buffer, n: usize, s: Settings, level: u16, step: u16) -> Stayed
+    requires { (n < 24) × ((voice_in state.now n).position.counter < 0x1000) × ((voice_in state.now n).position.index ≤ 27) × ((voice_in state.now n).envelope.level ≤ 0x7FFF) × (step ≤ 0x4000) }
     ensures { (result.counter ≡ (moved_of (voice_in state.now n).position.counter step).counter) × (result.target ≡ (voice_in state.now n).position.index + (moved_of (voice_in state.now n).position.counter step).moves) × (result.target < 32) × (result.amplitude ≡ amplitude_of s level (voice_in state.now n)) }
 {
     let x = voice_sound::scaled(sound(table, s, level, state, n), layout::level(state, n));
@@ -92,13 +93,13 @@ fn moved(table: &Table, state: &[u16], n: usize, s: Settings, level: u16, step: 
 pub fn stay(
     table: &Table,
     all: &AllSettings<'_>,
-    state: &[u16],
+    state: &Buffer,
     n: usize,
     step: Option<u16>,
     below: i16,
     level: u16,
 ) -> Stayed
-    requires { (n < 24) × (step ≡ steady_of (settings_of all.now.regs.now n)) × (length state.now ≡ state_length) × ((voice_in state.now n).position.counter < 0x1000) × ((voice_in state.now n).position.index ≤ 27) × ((voice_in state.now n).envelope.level ≤ 0x7FFF) }
+    requires { (n < 24) × (step ≡ steady_of (settings_of all.now.regs.now n)) × ((voice_in state.now n).position.counter < 0x1000) × ((voice_in state.now n).position.index ≤ 27) × ((voice_in state.now n).envelope.level ≤ 0x7FFF) }
     ensures { (result.counter ≡ (movement_of (settings_of all.now.regs.now n) below (voice_in state.now n)).counter) × (result.target ≡ target_of (settings_of all.now.regs.now n) below (voice_in state.now n)) × (result.target < 32) × (result.amplitude ≡ amplitude_of (settings_of all.now.regs.now n) level (voice_in state.now n)) }
 {
     if let Some(step) = step {

@@ -373,9 +373,6 @@ pub holds_as : {xs : List ℕ} {s t : State} → Holds xs s → s ≡ t → Hold
 holds_as h e = record { formed = h.formed; state = h.state ∙ e }
 
 -- work in place keeps the length
-pub same_size : (xs ys : List ℕ) {s : State} → Formed xs → Holds ys s → length ys ≡ length xs
-same_size xs ys e h = h.formed.size ∙ sym e.size
-
 pub tagged_set : (xs : List ℕ) (i v : ℕ) → is_tagged xs ≡ true → 2 ≤ i → is_tagged (set xs i v) ≡ true
 unfolding is_tagged
 tagged_set xs i v e h =

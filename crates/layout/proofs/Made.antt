@@ -66,10 +66,6 @@ module _ (l h : ℕ) where
   unfolding state_of state_from fresh_of signed
   headed_state size el eh = rw (headed_parts, el, eh, wide_back size)
 
-pub head_fits : (xs : List ℕ) (a b c : ℕ) → xs ≡ zeros_of state_length → 3 < length (set (set (set xs 0 a) 1 b) 2 c)
-unfolding zeros_of
-head_fits xs a b c e = rw e (omega arith)
-
 pub begun : (xs : List ℕ) (size : ℕ) {l h : ℕ} → xs ≡ zeros_of state_length → l ≡ low_half size → h ≡ high_half size
     → Holds (set (set (set (set xs 0 tag) 1 version) 2 l) 3 h) (with_voices (blank_of size) (state_of (set (set (set (set xs 0 tag) 1 version) 2 l) 3 h)).voices)
 unfolding zeros_of

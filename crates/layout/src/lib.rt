@@ -1,7 +1,7 @@
 // The state in the buffer that a caller lends, 1,284 halfwords: where each part stands, read and put in place.
 #![tactic(auto)]
 
-ghost use Rattle.std.specs.Prelude.{◌≡◌, ◌+◌, ◌*◌, ◌/◌, ◌%◌, ◌≤◌, ◌<◌, pos, length, get_or, set, replicate};
+ghost use Rattle.std.specs.Prelude.{◌≡◌, ◌+◌, ◌*◌, ◌/◌, ◌%◌, ◌≤◌, ◌<◌, pos, get_or, set, replicate};
 ghost use Rattle.fixed.specs.Signed.{signed};
 ghost use Rattle.registers.specs.Map.{register_at};
 ghost use Rattle.chip.specs.State.{with_regs, with_voices, with_control, with_transfer, fresh_of, watch_of, watched_of};
@@ -18,6 +18,9 @@ use stereo::Stereo;
 use voice::{Playing, Position, Source, Voice};
 
 pub const LENGTH: usize = 1284;
+
+// A buffer of a state's length, whatever stands in it.
+pub type Buffer = [u16; LENGTH];
 
 pub const TAG: u16 = 0x5754;
 
@@ -99,8 +102,7 @@ fn address(unit: u16) -> ByteAddress
 
 // ---- read
 
-pub fn size(state: &[u16]) -> u32
-    requires { length state.now ≡ state_length }
+pub fn size(state: &Buffer) -> u32
     ensures { result ≡ (state_of state.now).choices.size }
 {
     wide(state[2], state[3])
@@ -121,8 +123,7 @@ pub fn phase_of(n: u16) -> Phase
 }
 
 // The registers, copied out.
-pub fn registers(state: &[u16]) -> [u16; 256]
-    requires { length state.now ≡ state_length }
+pub fn registers(state: &Buffer) -> [u16; 256]
     ensures { result ≡ (state_of state.now).regs }
 {
     let mut regs = [0; 256];
@@ -130,8 +131,8 @@ pub fn registers(state: &[u16]) -> [u16; 256]
     regs
 }
 
-pub fn envelope(state: &[u16], n: usize) -> Envelope
-    requires { (n < 24) × (length state.now ≡ state_length) }
+pub fn envelope(state: &Buffer, n: usize) -> Envelope
+    requires { n < 24 }
     ensures { result ≡ (voice_in state.now n).envelope }
 {
     Envelope {
@@ -141,8 +142,8 @@ pub fn envelope(state: &[u16], n: usize) -> Envelope
     }
 }
 
-pub fn phase(state: &[u16], n: usize) -> Phase
-    requires { (n < 24) × (length state.now ≡ state_length) }
+pub fn phase(state: &Buffer, n: usize) -> Phase
+    requires { n < 24 }
     ensures { result ≡ (voice_in state.now n).envelope.phase }
 {
     phase_of(state[PHASES + n])
@@ -150,52 +151,52 @@ pub fn phase(state: &[u16], n: usize) -> Phase
 
 // Whether voice n is Idle, and whether its phase has steps.
 
-pub fn is_idle(state: &[u16], n: usize) -> bool
-    requires { (n < 24) × (length state.now ≡ state_length) }
+pub fn is_idle(state: &Buffer, n: usize) -> bool
+    requires { n < 24 }
     ensures { result ≡ is_idle (voice_in state.now n).envelope.phase }
 {
     state[PHASES + n] == 0
 }
 
-pub fn is_active(state: &[u16], n: usize) -> bool
-    requires { (n < 24) × (length state.now ≡ state_length) }
+pub fn is_active(state: &Buffer, n: usize) -> bool
+    requires { n < 24 }
     ensures { result ≡ active (voice_in state.now n).envelope.phase }
 {
     (1 <= state[PHASES + n]) & (state[PHASES + n] <= 4)
 }
 
-pub fn wait(state: &[u16], n: usize) -> u32
-    requires { (n < 24) × (length state.now ≡ state_length) }
+pub fn wait(state: &Buffer, n: usize) -> u32
+    requires { n < 24 }
     ensures { result ≡ (voice_in state.now n).envelope.wait }
 {
     wide(state[WAITS + n * 2], state[WAITS + n * 2 + 1])
 }
 
-pub fn level(state: &[u16], n: usize) -> u16
-    requires { (n < 24) × (length state.now ≡ state_length) }
+pub fn level(state: &Buffer, n: usize) -> u16
+    requires { n < 24 }
     ensures { result ≡ (voice_in state.now n).envelope.level }
 {
     state[LEVELS + n]
 }
 
 // Sample k of voice n.
-pub fn sample(state: &[u16], n: usize, k: usize) -> i16
-    requires { (n < 24) × (k < 31) × (length state.now ≡ state_length) }
+pub fn sample(state: &Buffer, n: usize, k: usize) -> i16
+    requires { (n < 24) × (k < 31) }
     ensures { result ≡ get_or (voice_in state.now n).playing.samples k (pos 0) }
 {
     fixed::to_signed(state[SAMPLES + n * 31 + k])
 }
 
 // Whether voice n has a block.
-pub fn loaded(state: &[u16], n: usize) -> bool
-    requires { (n < 24) × (length state.now ≡ state_length) }
+pub fn loaded(state: &Buffer, n: usize) -> bool
+    requires { n < 24 }
     ensures { result ≡ (voice_in state.now n).playing.loaded }
 {
     state[LOADED + n] == 1
 }
 
-fn samples(state: &[u16], n: usize) -> [i16; 31]
-    requires { (n < 24) × (length state.now ≡ state_length) }
+fn samples(state: &Buffer, n: usize) -> [i16; 31]
+    requires { n < 24 }
     ensures { result ≡ list_of (λ k. signed 16 (get_or state.now (524 + n * 31 + k) 0)) 31 }
 {
     // by an index: the proof does not follow signed numbers through array::from_fn
@@ -206,8 +207,8 @@ fn samples(state: &[u16], n: usize) -> [i16; 31]
     all
 }
 
-fn source(state: &[u16], n: usize) -> Source
-    requires { (n < 24) × (length state.now ≡ state_length) }
+fn source(state: &Buffer, n: usize) -> Source
+    requires { n < 24 }
     ensures { result ≡ (voice_in state.now n).source }
 {
     Source {
@@ -216,8 +217,8 @@ fn source(state: &[u16], n: usize) -> Source
     }
 }
 
-pub fn position(state: &[u16], n: usize) -> Position
-    requires { (n < 24) × (length state.now ≡ state_length) × ((voice_in state.now n).position.index ≤ 27) }
+pub fn position(state: &Buffer, n: usize) -> Position
+    requires { (n < 24) × ((voice_in state.now n).position.index ≤ 27) }
     ensures { result ≡ (voice_in state.now n).position }
 {
     Position {
@@ -226,7 +227,7 @@ pub fn position(state: &[u16], n: usize) -> Position
     }
 }
 
-fn playing(state: &[u16], n: usize) -> Playing
+fn playing(state: &Buffer, n: usize) -> Playing
     requires { (n < 24) × Formed state.now }
     ensures { result ≡ (voice_in state.now n).playing }
 {
@@ -238,7 +239,7 @@ fn playing(state: &[u16], n: usize) -> Playing
 }
 
 // Voice n, copied out.
-pub fn voice(state: &[u16], n: usize) -> Voice
+pub fn voice(state: &Buffer, n: usize) -> Voice
     requires { (n < 24) × Formed state.now × ((voice_in state.now n).position.index ≤ 27) }
     ensures { result ≡ voice_in state.now n }
 {
@@ -253,8 +254,7 @@ pub fn voice(state: &[u16], n: usize) -> Voice
 
 // What follows the voices.
 
-pub fn noise(state: &[u16]) -> Noise
-    requires { length state.now ≡ state_length }
+pub fn noise(state: &Buffer) -> Noise
     ensures { result ≡ (state_of state.now).noise }
 {
     Noise {
@@ -263,8 +263,7 @@ pub fn noise(state: &[u16]) -> Noise
     }
 }
 
-pub fn control(state: &[u16]) -> Control
-    requires { length state.now ≡ state_length }
+pub fn control(state: &Buffer) -> Control
     ensures { result ≡ (state_of state.now).control }
 {
     Control {
@@ -274,8 +273,8 @@ pub fn control(state: &[u16]) -> Control
     }
 }
 
-pub fn capture(state: &[u16]) -> u16
-    requires { (length state.now ≡ state_length) × ((state_of state.now).capture < 0x400) }
+pub fn capture(state: &Buffer) -> u16
+    requires { (state_of state.now).capture < 0x400 }
     ensures { result ≡ (state_of state.now).capture }
 {
     state[CAPTURE] * 2
@@ -289,8 +288,8 @@ fn address_of(low: u16, high: u16) -> ByteAddress
     ByteAddress(wide(low, high) * 2)
 }
 
-pub fn reverb(state: &[u16]) -> Reverb
-    requires { (length state.now ≡ state_length) × ((state_of state.now).reverb.place.0 < 0x80000) }
+pub fn reverb(state: &Buffer) -> Reverb
+    requires { (state_of state.now).reverb.place.0 < 0x80000 }
     ensures { result ≡ (state_of state.now).reverb }
 {
     Reverb {
@@ -303,31 +302,30 @@ pub fn reverb(state: &[u16]) -> Reverb
     }
 }
 
-pub fn transfer(state: &[u16]) -> ByteAddress
-    requires { (length state.now ≡ state_length) × ((state_of state.now).transfer.0 < 0x80000) }
+pub fn transfer(state: &Buffer) -> ByteAddress
+    requires { (state_of state.now).transfer.0 < 0x80000 }
     ensures { result ≡ (state_of state.now).transfer }
 {
     address_of(state[TRANSFER], state[TRANSFER + 1])
 }
 
-pub fn tick(state: &[u16]) -> u32
-    requires { length state.now ≡ state_length }
+pub fn tick(state: &Buffer) -> u32
     ensures { result ≡ (state_of state.now).tick }
 {
     wide(state[TICK], state[TICK + 1])
 }
 
 // A register, by its offset.
-pub fn register(state: &[u16], offset: usize) -> u16
-    requires { (length state.now ≡ state_length) × (offset < 512) }
+pub fn register(state: &Buffer, offset: usize) -> u16
+    requires { offset < 512 }
     ensures { result ≡ register_at (state_of state.now).regs offset }
 {
     state[REGISTERS + offset / 2]
 }
 
 // What accesses watch.
-pub fn watch(state: &[u16]) -> Watch
-    requires { (length state.now ≡ state_length) × (0 < (state_of state.now).choices.size) }
+pub fn watch(state: &Buffer) -> Watch
+    requires { 0 < (state_of state.now).choices.size }
     ensures { result ≡ watch_of (state_of state.now) }
 {
     let spucnt = register(state, 0x1AA);
@@ -354,8 +352,8 @@ fn place(n: usize, w: usize) -> usize
     PHASES + w * 24 + n
 }
 
-fn put_words(state: &mut [u16], n: usize, words: &[u16; 11])
-    requires { (n < 24) × (length state.old ≡ state_length) }
+fn put_words(state: &mut Buffer, n: usize, words: &[u16; 11])
+    requires { n < 24 }
     ensures { state.new ≡ put_words (λ w. get_or words.now w 0) n 0 state.old 11 }
 {
     for (w, word) in words.iter().enumerate() {
@@ -363,8 +361,8 @@ fn put_words(state: &mut [u16], n: usize, words: &[u16; 11])
     }
 }
 
-fn put_samples(state: &mut [u16], n: usize, samples: &[i16; 31])
-    requires { (n < 24) × (length state.old ≡ state_length) }
+fn put_samples(state: &mut Buffer, n: usize, samples: &[i16; 31])
+    requires { n < 24 }
     ensures { (state.new ≡ put_words (sample_word samples.now) n 11 state.old 31) × Samples samples.now }
 {
     for (k, sample) in samples.iter().enumerate() {
@@ -394,7 +392,7 @@ fn unit(a: ByteAddress) -> u16
 }
 
 // Replaces voice n.
-pub fn put_voice(state: &mut [u16], n: usize, v: Voice)
+pub fn put_voice(state: &mut Buffer, n: usize, v: Voice)
     requires { (n < 24) × Formed state.old × (v.source.address.0 % 8 ≡ 0) × (v.source.address.0 < 0x80000) }
     ensures { Holds state.new (with_voice (state_of state.old) n v) }
 {
@@ -416,7 +414,7 @@ pub fn put_voice(state: &mut [u16], n: usize, v: Voice)
 }
 
 // Replaces its envelope alone.
-pub fn put_envelope(state: &mut [u16], n: usize, e: Envelope)
+pub fn put_envelope(state: &mut Buffer, n: usize, e: Envelope)
     requires { (n < 24) × Formed state.old }
     ensures { Holds state.new (with_voice (state_of state.old) n (with_envelope (voice_in state.old n) e)) }
 {
@@ -427,7 +425,7 @@ pub fn put_envelope(state: &mut [u16], n: usize, e: Envelope)
 }
 
 // The pitch counter and the sample index of voice n.
-pub fn put_position(state: &mut [u16], n: usize, counter: u16, index: u16)
+pub fn put_position(state: &mut Buffer, n: usize, counter: u16, index: u16)
     requires { (n < 24) × Formed state.old }
     ensures { Holds state.new (with_voice (state_of state.old) n (with_position (voice_in state.old n) counter index)) }
 {
@@ -436,7 +434,7 @@ pub fn put_position(state: &mut [u16], n: usize, counter: u16, index: u16)
 }
 
 // The wait of its envelope.
-pub fn put_wait(state: &mut [u16], n: usize, wait: u32)
+pub fn put_wait(state: &mut Buffer, n: usize, wait: u32)
     requires { (n < 24) × Formed state.old }
     ensures { Holds state.new (with_voice (state_of state.old) n (with_wait (voice_in state.old n) wait)) }
 {
@@ -444,21 +442,21 @@ pub fn put_wait(state: &mut [u16], n: usize, wait: u32)
     state[WAITS + n * 2 + 1] = high(wait);
 }
 
-pub fn put_repeat(state: &mut [u16], n: usize, value: u16)
+pub fn put_repeat(state: &mut Buffer, n: usize, value: u16)
     requires { (n < 24) × Formed state.old }
     ensures { Holds state.new (with_voice (state_of state.old) n (with_repeat (voice_in state.old n) value)) }
 {
     state[REPEATS + n] = value;
 }
 
-pub fn put_register(state: &mut [u16], i: usize, value: u16)
+pub fn put_register(state: &mut Buffer, i: usize, value: u16)
     requires { (i < 256) × Formed state.old }
     ensures { Holds state.new (with_regs (state_of state.old) (set (state_of state.old).regs i value)) }
 {
     state[REGISTERS + i] = value;
 }
 
-pub fn put_noise(state: &mut [u16], noise: Noise)
+pub fn put_noise(state: &mut Buffer, noise: Noise)
     requires { Formed state.old }
     ensures { Holds state.new (with_noise (state_of state.old) noise) }
 {
@@ -467,7 +465,7 @@ pub fn put_noise(state: &mut [u16], noise: Noise)
     state[TIMER + 1] = high(noise.timer);
 }
 
-pub fn put_control(state: &mut [u16], control: Control)
+pub fn put_control(state: &mut Buffer, control: Control)
     requires { Formed state.old }
     ensures { Holds state.new (with_control (state_of state.old) control) }
 {
@@ -477,7 +475,7 @@ pub fn put_control(state: &mut [u16], control: Control)
 }
 
 // What was watched.
-pub fn put_watch(state: &mut [u16], w: Watch)
+pub fn put_watch(state: &mut Buffer, w: Watch)
     requires { Formed state.old }
     ensures { Holds state.new (watched_of (state_of state.old) w) }
 {
@@ -486,7 +484,7 @@ pub fn put_watch(state: &mut [u16], w: Watch)
 }
 
 // The reverb's place.
-pub fn put_place(state: &mut [u16], a: ByteAddress)
+pub fn put_place(state: &mut Buffer, a: ByteAddress)
     requires { Formed state.old × (a.0 % 2 ≡ 0) }
     ensures { Holds state.new (with_place (state_of state.old) a) }
 {
@@ -494,7 +492,7 @@ pub fn put_place(state: &mut [u16], a: ByteAddress)
     state[PLACE + 1] = high(a.0 / 2);
 }
 
-pub fn put_transfer(state: &mut [u16], a: ByteAddress)
+pub fn put_transfer(state: &mut Buffer, a: ByteAddress)
     requires { Formed state.old × (a.0 % 2 ≡ 0) }
     ensures { Holds state.new (with_transfer (state_of state.old) a) }
 {
@@ -502,8 +500,7 @@ pub fn put_transfer(state: &mut [u16], a: ByteAddress)
     state[TRANSFER + 1] = high(a.0 / 2);
 }
 
-fn put_tail(state: &mut [u16], words: &[u16; 14])
-    requires { length state.old ≡ state_length }
+fn put_tail(state: &mut Buffer, words: &[u16; 14])
     ensures { state.new ≡ put_tail (λ i. get_or words.now i 0) 0 state.old 14 }
 {
     for (i, word) in words.iter().enumerate() {
@@ -513,7 +510,7 @@ fn put_tail(state: &mut [u16], words: &[u16; 14])
 
 // What a run of ticks changes besides the voices.
 pub fn put_rest(
-    state: &mut [u16],
+    state: &mut Buffer,
     noise: Noise,
     control: Control,
     capture: u16,
@@ -544,16 +541,14 @@ pub fn put_rest(
 
 // ---- make
 
-fn clear(state: &mut [u16])
-    requires { length state.old ≡ state_length }
+fn clear(state: &mut Buffer)
     ensures { state.new ≡ zeros_of state_length }
 {
     state.fill(0);
 }
 
 // A fresh state but for its register, its timer and its voices.
-fn begin(state: &mut [u16], size: u32)
-    requires { length state.old ≡ state_length }
+fn begin(state: &mut Buffer, size: u32)
     ensures { Holds state.new (with_voices (blank_of size) (state_of state.new).voices) }
 {
     clear(state);
@@ -564,7 +559,7 @@ fn begin(state: &mut [u16], size: u32)
 }
 
 // Makes every voice a fresh one.
-fn put_fresh(state: &mut [u16])
+fn put_fresh(state: &mut Buffer)
     requires { Formed state.old }
     ensures { Holds state.new (with_voices (state_of state.old) (replicate 24 fresh_voice)) }
 {
@@ -574,8 +569,7 @@ fn put_fresh(state: &mut [u16])
 }
 
 // Makes a fresh state for a sound RAM of size bytes, whatever stood in the buffer.
-pub fn fresh(state: &mut [u16], size: u32)
-    requires { length state.old ≡ state_length }
+pub fn fresh(state: &mut Buffer, size: u32)
     ensures { Holds state.new (fresh_of size) }
 {
     begin(state, size);

@@ -9,6 +9,7 @@ use borrow.Author.Tests.{leb-true, le-leb, eq-eqb, ne_eqb, eqb-true}
 use lib.Bits.{bit_and, and_mask}
 use lib.Dec.{leb, ltb, eqb}
 use lib.ListN.{length, get_or}
+use Rattle.std.specs.Array.{IsWholeChunk}
 use Rattle.fixed.specs.Tests.{all_below}
 use Rattle.fixed.proofs.Bools.{all_and}
 use Rattle.envelope.specs.declared.Envelope.{Envelope}
@@ -190,13 +191,14 @@ module _ (xs : List ℕ) where
 
 -- ---- the whole
 
-pub other_length : (xs : List ℕ) → (length xs ≡ state_length → ⊥) → eqb (length xs) state_length ≡ is_tagged xs
+pub other_length : (xs : List ℕ) → (length xs ≡ state_length → ⊥) → is_tagged xs ≡ false
 unfolding is_tagged all_of
 other_length xs h = rw (ne_eqb (length xs) state_length h)
 
-pub tag_tested : (xs : List ℕ) → length xs ≡ state_length → (eqb (get_or xs 0 0) tag && eqb (get_or xs 1 0) version) ≡ is_tagged xs
+-- ys is the array that xs is
+pub tag_tested : (xs ys : List ℕ) → IsWholeChunk xs ys state_length → {b : Bool} → (eqb (get_or ys 0 0) tag && eqb (get_or ys 1 0) version) ≡ b → is_tagged xs ≡ b
 unfolding is_tagged all_of
-tag_tested xs h = rw (eq-eqb (length xs) state_length h, and-true (eqb (get_or xs 1 0) version))
+tag_tested xs ys w e = rw (eq-eqb (length xs) state_length w.long, and-true (eqb (get_or xs 1 0) version), ← w.same) e
 
 -- a is the test of all but the voices, b that of the voices
 module _ (xs : List ℕ) (last : ℕ) (a : Bool) {size : ℕ} (t : is_tagged xs ≡ true) (f : (last + 1) * 8 ≡ size) (ea : (a && every_ok size (state_of xs).voices 24) ≡ (is_tail (parts_of xs).tail && state_ok (state_of xs))) where

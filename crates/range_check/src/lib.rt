@@ -1,12 +1,14 @@
 // Whether the state in a lent buffer is in range, tested where it stands: one loop over the voices' arrays, which the compiler turns into tests of eight voices at a time.
 #![tactic(auto)]
 
-ghost use Rattle.std.specs.Prelude.{◌≡◌, true, ◌&&◌, ◌+◌, ◌*◌, length};
+ghost use Rattle.std.specs.Prelude.{◌≡◌, true, false, ◌&&◌, ◌+◌, ◌*◌, MatchOption};
 ghost use Rattle.fixed.specs.Tests.{all_below};
 ghost use Rattle.soundram.specs.Address.{address_of};
 ghost use Rattle.chip.specs.State.{size_ok, every_ok, state_ok};
-ghost use Rattle.layout.specs.Layout.{state_length, parts_of, state_of, voice_in, every, is_tagged, is_row, is_tail, is_state};
+ghost use Rattle.layout.specs.Layout.{parts_of, state_of, voice_in, every, is_tagged, is_row, is_tail, is_state};
 ghost use Rattle.range_check.specs.Voices.{wait_ok, fields_ok};
+
+use layout::Buffer;
 
 // Whether there is a sound RAM of size bytes.
 pub fn size_ok(size: u32) -> bool
@@ -15,16 +17,20 @@ pub fn size_ok(size: u32) -> bool
     (size == 0x10000) | (size == 0x80000)
 }
 
-// Whether a buffer has a state's length and tag.
-pub fn is_tagged(state: &[u16]) -> bool
-    ensures { result ≡ is_tagged state.now }
+// The buffer of a state, if what is lent has a state's length and tag.
+pub fn tagged(state: &[u16]) -> Option<&Buffer>
+    ensures { MatchOption result (is_tagged state.now ≡ false) (λ b. (b.now ≡ state.now) × (is_tagged state.now ≡ true)) }
 {
-    state.len() == layout::LENGTH && (state[0] == layout::TAG) & (state[1] == layout::VERSION)
+    let buffer = state.as_array()?;
+    if (buffer[0] == layout::TAG) & (buffer[1] == layout::VERSION) {
+        Some(buffer)
+    } else {
+        None
+    }
 }
 
 // Whether each voice's fields but its wait are in range, in a sound RAM whose last unit is last.
-fn fields(state: &[u16], last: u16) -> bool
-    requires { length state.now ≡ state_length }
+fn fields(state: &Buffer, last: u16) -> bool
     ensures { result ≡ all_below 24 (fields_ok state.now last) }
 {
     let mut ok = true;
@@ -43,8 +49,7 @@ fn fields(state: &[u16], last: u16) -> bool
 }
 
 // Whether each voice's wait is in range.
-fn waits(state: &[u16]) -> bool
-    requires { length state.now ≡ state_length }
+fn waits(state: &Buffer) -> bool
     ensures { result ≡ all_below 24 (λ n. wait_ok (voice_in state.now n).envelope) }
 {
     let mut ok = true;
@@ -57,8 +62,7 @@ fn waits(state: &[u16]) -> bool
 }
 
 // The voices, in a sound RAM whose last unit is last. The waits have a loop of their own, because they are wider: four fit where eight other fields do.
-fn voices(state: &[u16], last: u16) -> bool
-    requires { length state.now ≡ state_length }
+fn voices(state: &Buffer, last: u16) -> bool
     ensures { result ≡ (every is_row (parts_of state.now).rows && every_ok ((last + 1) * 8) (state_of state.now).voices 24) }
 {
     fields(state, last) && waits(state)
@@ -72,8 +76,8 @@ fn halfword_of(last: u16, unit: u16) -> u32
 }
 
 // All but the voices.
-fn rest(state: &[u16], size: u32, last: u16) -> bool
-    requires { (length state.now ≡ state_length) × (size ≡ (state_of state.now).choices.size) × (size_ok size ≡ true) × ((last + 1) * 8 ≡ size) }
+fn rest(state: &Buffer, size: u32, last: u16) -> bool
+    requires { (size ≡ (state_of state.now).choices.size) × (size_ok size ≡ true) × ((last + 1) * 8 ≡ size) }
     ensures { (result && every_ok size (state_of state.now).voices 24) ≡ (is_tail (parts_of state.now).tail && state_ok (state_of state.now)) }
 {
     let base = halfword_of(last, state[layout::REGISTERS + 0xD1]);
@@ -90,7 +94,7 @@ fn rest(state: &[u16], size: u32, last: u16) -> bool
 }
 
 // Whether every field is in range, in a sound RAM of size bytes whose last unit is last.
-fn ranges(state: &[u16], size: u32, last: u16) -> bool
+fn ranges(state: &Buffer, size: u32, last: u16) -> bool
     requires { (is_tagged state.now ≡ true) × (size ≡ (state_of state.now).choices.size) × (size_ok size ≡ true) × ((last + 1) * 8 ≡ size) }
     ensures { result ≡ is_state state.now }
 {
@@ -98,7 +102,7 @@ fn ranges(state: &[u16], size: u32, last: u16) -> bool
 }
 
 // Whether a state stands in a buffer with its tag, every field within its range.
-pub fn check(state: &[u16]) -> bool
+pub fn check(state: &Buffer) -> bool
     requires { is_tagged state.now ≡ true }
     ensures { result ≡ is_state state.now }
 {

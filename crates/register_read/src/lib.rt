@@ -1,10 +1,12 @@
 // Register reads that are not refused, from the buffer.
 #![tactic(auto)]
 
-ghost use Rattle.std.specs.Prelude.{◌≡◌, true, cond, ◌+◌, ◌^◌, ◌≤◌, ◌<◌, eqb, leb, length};
+ghost use Rattle.std.specs.Prelude.{◌≡◌, true, cond, ◌+◌, ◌^◌, ◌≤◌, ◌<◌, eqb, leb};
 ghost use Rattle.registers.specs.Offsets.{listed as listed_at};
 ghost use Rattle.chip.specs.Registers.{end_flags, status_of, doubled as doubled_at, read_of};
-ghost use Rattle.layout.specs.Layout.{state_length, state_of, voice_in, Formed};
+ghost use Rattle.layout.specs.Layout.{state_of, voice_in, Formed};
+
+use layout::Buffer;
 
 // A voice's end flag, 0 or 1, as bit k.
 fn end_flag(ended: u16, k: usize) -> u16
@@ -15,7 +17,7 @@ fn end_flag(ended: u16, k: usize) -> u16
 }
 
 // The end flags of count voices from first on.
-fn end_flags(state: &[u16], first: usize, count: usize) -> u16
+fn end_flags(state: &Buffer, first: usize, count: usize) -> u16
     requires { (first + count ≤ 24) × (count ≤ 16) × Formed state.now }
     ensures { result ≡ end_flags (state_of state.now).voices first count }
 {
@@ -34,16 +36,14 @@ fn weight(set: bool, w: u16) -> u16
 }
 
 // Whether the capture's place is at or above 200h. It stands as a number of halfwords.
-fn past_half(state: &[u16]) -> bool
-    requires { length state.now ≡ state_length }
+fn past_half(state: &Buffer) -> bool
     ensures { result ≡ leb 0x200 (state_of state.now).capture }
 {
     0x100 <= state[layout::CAPTURE]
 }
 
 // SPUSTAT.
-fn status(state: &[u16]) -> u16
-    requires { length state.now ≡ state_length }
+fn status(state: &Buffer) -> u16
     ensures { result ≡ status_of (state_of state.now) }
 {
     let c = layout::control(state);
@@ -54,23 +54,23 @@ fn status(state: &[u16]) -> u16
 }
 
 // The doubled main volume; offset is the register's.
-fn doubled(state: &[u16], offset: usize) -> u16
-    requires { (length state.now ≡ state_length) × (offset < 512) }
+fn doubled(state: &Buffer, offset: usize) -> u16
+    requires { offset < 512 }
     ensures { result ≡ doubled_at (state_of state.now) offset }
 {
     fixed::to_bits(fixed::volume(layout::register(state, offset)))
 }
 
 // The repeat unit of voice n.
-fn repeat(state: &[u16], n: usize) -> u16
-    requires { (n < 24) × (length state.now ≡ state_length) }
+fn repeat(state: &Buffer, n: usize) -> u16
+    requires { n < 24 }
     ensures { result ≡ (voice_in state.now n).source.repeat.0 }
 {
     state[layout::REPEATS + n]
 }
 
 // A register read that is not refused.
-pub fn read(state: &[u16], offset: u32) -> u16
+pub fn read(state: &Buffer, offset: u32) -> u16
     requires { Formed state.now × (listed_at offset ≡ true) }
     ensures { result ≡ read_of (state_of state.now) offset }
 {

@@ -1,29 +1,30 @@
 // Register writes that are not refused, on the buffer.
 #![tactic(auto)]
 
-ghost use Rattle.std.specs.Prelude.{◌≡◌, true, false, ◌+◌, ◌≤◌, ◌<◌, length};
+ghost use Rattle.std.specs.Prelude.{◌≡◌, true, false, ◌+◌, ◌≤◌, ◌<◌};
 ghost use Rattle.soundram.specs.Address.{Sized};
 ghost use Rattle.registers.specs.Map.{of_voice};
 ghost use Rattle.registers.specs.Offsets.{listed as listed_at};
 ghost use Rattle.chip.specs.Registers.{key_on, key_off, set_repeat, set_control, effect_of, write_of};
-ghost use Rattle.layout.specs.Layout.{state_length, Formed, state_of, Holds};
+ghost use Rattle.layout.specs.Layout.{Formed, state_of, Holds};
 ghost use Rattle.register_write.specs.Keys.{key_voice, key_if, key_bits, key_pair, stop_voice, stop_voices};
 
 use chip::Control;
 use envelope::Phase;
+use layout::Buffer;
 use soundram::UnitAddress;
 use voice::Voice;
 
 // A register of voice n, by its offset from the voice's first.
-fn of_voice(state: &[u16], n: usize, offset: usize) -> u16
-    requires { (n < 24) × (offset < 16) × (length state.now ≡ state_length) }
+fn of_voice(state: &Buffer, n: usize, offset: usize) -> u16
+    requires { (n < 24) × (offset < 16) }
     ensures { result ≡ of_voice (state_of state.now).regs n offset }
 {
     layout::register(state, n * 16 + offset)
 }
 
 // Keys voice n on.
-fn start(state: &mut [u16], n: usize)
+fn start(state: &mut Buffer, n: usize)
     requires { (n < 24) × Formed state.old × Sized (state_of state.old).choices.size }
     ensures { Holds state.new (key_voice true (state_of state.old) n) }
 {
@@ -36,7 +37,7 @@ fn start(state: &mut [u16], n: usize)
 }
 
 // Keys voice n off: its envelope alone changes.
-fn release(state: &mut [u16], n: usize)
+fn release(state: &mut Buffer, n: usize)
     requires { (n < 24) × Formed state.old }
     ensures { Holds state.new (key_voice false (state_of state.old) n) }
 {
@@ -51,7 +52,7 @@ fn release(state: &mut [u16], n: usize)
 }
 
 // Keys voice n on or off, if its bit is set.
-fn key(state: &mut [u16], set: bool, on: bool, n: usize)
+fn key(state: &mut Buffer, set: bool, on: bool, n: usize)
     requires { (n < 24) × Formed state.old × Sized (state_of state.old).choices.size }
     ensures { Holds state.new (key_if set on (state_of state.old) n) }
 {
@@ -66,7 +67,7 @@ fn key(state: &mut [u16], set: bool, on: bool, n: usize)
 }
 
 // Keys those of count voices, from first on, whose bits are set in value.
-fn on_bits(state: &mut [u16], on: bool, value: u16, first: usize, count: usize)
+fn on_bits(state: &mut Buffer, on: bool, value: u16, first: usize, count: usize)
     requires { (first + count ≤ 24) × (count ≤ 16) × Formed state.old × Sized (state_of state.old).choices.size }
     ensures { Holds state.new (key_bits on (state_of state.old) value first count) }
 {
@@ -76,7 +77,7 @@ fn on_bits(state: &mut [u16], on: bool, value: u16, first: usize, count: usize)
 }
 
 // A pair of key registers.
-fn on_keys(state: &mut [u16], on: bool, second: u32, value: u16)
+fn on_keys(state: &mut Buffer, on: bool, second: u32, value: u16)
     requires { Formed state.old × Sized (state_of state.old).choices.size }
     ensures { Holds state.new (key_pair on (state_of state.old) second value) }
 {
@@ -87,7 +88,7 @@ fn on_keys(state: &mut [u16], on: bool, second: u32, value: u16)
     }
 }
 
-fn key_on(state: &mut [u16], second: u32, value: u16)
+fn key_on(state: &mut Buffer, second: u32, value: u16)
     requires { Formed state.old × Sized (state_of state.old).choices.size }
     ensures { Holds state.new (key_on (state_of state.old) second value) }
 {
@@ -96,14 +97,14 @@ fn key_on(state: &mut [u16], second: u32, value: u16)
     }
 }
 
-fn key_off(state: &mut [u16], second: u32, value: u16)
+fn key_off(state: &mut Buffer, second: u32, value: u16)
     requires { Formed state.old × Sized (state_of state.old).choices.size }
     ensures { Holds state.new (key_off (state_of state.old) second value) }
 {
     on_keys(state, false, second, value);
 }
 
-fn set_repeat(state: &mut [u16], n: usize, value: u16)
+fn set_repeat(state: &mut Buffer, n: usize, value: u16)
     requires { (n < 24) × Formed state.old }
     ensures { Holds state.new (set_repeat (state_of state.old) n value) }
 {
@@ -111,14 +112,14 @@ fn set_repeat(state: &mut [u16], n: usize, value: u16)
 }
 
 // Stops voice n: it gets the envelope of a fresh voice.
-fn stop(state: &mut [u16], n: usize)
+fn stop(state: &mut Buffer, n: usize)
     requires { (n < 24) × Formed state.old }
     ensures { Holds state.new (stop_voice (state_of state.old) n) }
 {
     layout::put_envelope(state, n, Voice::fresh().envelope);
 }
 
-fn stop_all(state: &mut [u16])
+fn stop_all(state: &mut Buffer)
     requires { Formed state.old }
     ensures { Holds state.new (stop_voices (state_of state.old) 24) }
 {
@@ -128,7 +129,7 @@ fn stop_all(state: &mut [u16])
 }
 
 // What a write to SPUCNT does; old is the value before it.
-fn set_control(state: &mut [u16], old: u16, value: u16)
+fn set_control(state: &mut Buffer, old: u16, value: u16)
     requires { Formed state.old }
     ensures { Holds state.new (set_control (state_of state.old) old value) }
 {
@@ -146,7 +147,7 @@ fn set_control(state: &mut [u16], old: u16, value: u16)
 }
 
 // What a write does besides keeping the value.
-fn effect(state: &mut [u16], offset: u32, old: u16, value: u16)
+fn effect(state: &mut Buffer, offset: u32, old: u16, value: u16)
     requires { Formed state.old × Sized (state_of state.old).choices.size }
     ensures { Holds state.new (effect_of (state_of state.old) offset old value) }
 {
@@ -179,7 +180,7 @@ fn effect(state: &mut [u16], offset: u32, old: u16, value: u16)
 }
 
 // A register write that is not refused.
-pub fn write(state: &mut [u16], offset: u32, value: u16)
+pub fn write(state: &mut Buffer, offset: u32, value: u16)
     requires { Formed state.old × Sized (state_of state.old).choices.size × (listed_at offset ≡ true) }
     ensures { Holds state.new (write_of (state_of state.old) offset value) }
 {

@@ -16,6 +16,7 @@ ghost use Rattle.tick_runs.specs.Run.{Becomes, enveloped, moved_to, PlaysAll, Ru
 
 use chip::Control;
 use gauss::Table;
+use layout::Buffer;
 use soundram::{Reader, Watch};
 use tick::{Going, Rest};
 use voice::{Position, Voice};
@@ -37,7 +38,7 @@ pub struct Reports {
 
 // Voice n becomes v, with the block at its address loaded.
 fn load(
-    state: &mut [u16],
+    state: &mut Buffer,
     n: usize,
     v: Voice,
     size: u32,
@@ -54,7 +55,7 @@ fn load(
 }
 
 // The envelope of voice n takes its step. Most only wait, and look at no rate.
-fn step_envelope(all: &AllSettings<'_>, state: &mut [u16], n: usize)
+fn step_envelope(all: &AllSettings<'_>, state: &mut Buffer, n: usize)
     requires { (n < 24) × Formed state.old }
     ensures { Holds state.new (with_voice (state_of state.old) n (enveloped all.now.regs.now n (voice_in state.old n))) }
 {
@@ -71,7 +72,7 @@ fn step_envelope(all: &AllSettings<'_>, state: &mut [u16], n: usize)
 // Both steps of voice n, where the pitch step leads past the block's last sample.
 fn pass_end(
     all: &AllSettings<'_>,
-    state: &mut [u16],
+    state: &mut Buffer,
     n: usize,
     counter: u16,
     target: u32,
@@ -105,7 +106,7 @@ fn play_all(
     all: &AllSettings<'_>,
     steps: &[Option<u16>; 24],
     size: u32,
-    state: &mut [u16],
+    state: &mut Buffer,
     level: u16,
     ram: &[u8],
     marks: &[u8],
@@ -141,7 +142,7 @@ fn play_all(
 }
 
 // Before a run of so many ticks.
-fn begin(state: &[u16], regs: &[u16; 256], count: usize) -> Going
+fn begin(state: &Buffer, regs: &[u16; 256], count: usize) -> Going
     requires { Formed state.now × InRange (state_of state.now) × (regs.now ≡ (state_of state.now).regs) }
     ensures { result ≡ begin_of (state_of state.now) count }
 {
@@ -162,7 +163,7 @@ fn begin(state: &[u16], regs: &[u16; 256], count: usize) -> Going
 }
 
 // Puts back what a run changed besides the voices.
-fn end(state: &mut [u16], r: Rest, w: Watch)
+fn end(state: &mut Buffer, r: Rest, w: Watch)
     requires { Formed state.old × (r.capture % 2 ≡ 0) × (r.reverb.place.0 % 2 ≡ 0) }
     ensures { Holds state.new (join_of (state_of state.old) (state_of state.old).voices r w) }
 {
@@ -176,7 +177,7 @@ fn end(state: &mut [u16], r: Rest, w: Watch)
 
 // One tick for each pair of the buffer out.
 pub fn run(
-    state: &mut [u16],
+    state: &mut Buffer,
     ram: &mut [u8],
     marks: &mut [u8],
     cd: &[i16],

@@ -3,14 +3,14 @@ use mathlib.Core.Bool.{not}
 use Rattle.calls.proofs.Kept.{tagged_not, tagged_is, state_is_2, state_is_0}
 use Rattle.calls.proofs.check_state.Goals as goal
 
-pub returns-then-not-is_tagged : goal.returns-then-not-is_tagged
-returns-then-not-is_tagged c = tagged_not _ _ c.is_tagged.ensures (ap not c.if-not-is_tagged.true)
+pub returns-in_default : goal.returns-in_default
+returns-in_default c = (tagged_not _ _ c.in_default.ensures, tt {0})
 
 pub check-requires : goal.check-requires
-check-requires c = tagged_is _ c.is_tagged.ensures (ap not c.if-not-is_tagged.false)
+check-requires c = tagged_is _ c.in-Some.ensures
 
 pub returns-then-not-check : goal.returns-then-not-check
-returns-then-not-check c = state_is_2 _ c.is_tagged.ensures (ap not c.if-not-is_tagged.false) c.check.ensures (ap not c.if-not-check.true)
+returns-then-not-check c = (state_is_2 _ c.in-Some.ensures c.check.ensures (ap not c.if-not-check.true), tt {0})
 
 pub returns : goal.returns
-returns c = state_is_0 _ c.is_tagged.ensures (ap not c.if-not-is_tagged.false) c.check.ensures (ap not c.if-not-check.false)
+returns c = (state_is_0 _ c.in-Some.ensures c.check.ensures (ap not c.if-not-check.false), c.in-Some.ensures.0)

@@ -5,4 +5,4 @@ use Rattle.calls_transfer.proofs.accepted.Goals as goal
 pub returns : goal.returns
 returns c =
     let s = c.args in
-    (refl, put_both _ s.m.value s.m.watch c.put_transfer.ensures c.put_watch.ensures, record { each = λ i. (c.slice_known-3-1.given i).fits })
+    (refl, put_both _ s.m.value s.m.watch c.put_transfer.ensures c.put_watch.ensures)

@@ -9,16 +9,16 @@ pub returns-then-s : goal.returns-then-s
 returns-then-s c = search (sound_noise, rules)
 
 pub sample-requires : goal.sample-requires
-sample-requires c = (c.requires.0, index_first c.position-p.ensures c.requires.2, c.requires.1)
+sample-requires c = (c.requires.0, index_first c.position-p.ensures c.requires.1)
 
 pub sample-requires-2 : goal.sample-requires-2
-sample-requires-2 c = (c.requires.0, index_small c.position-p.ensures c.requires.2 _ (search rules), c.requires.1)
+sample-requires-2 c = (c.requires.0, index_small c.position-p.ensures c.requires.1 _ (search rules))
 
 pub sample-requires-3 : goal.sample-requires-3
-sample-requires-3 c = (c.requires.0, index_small c.position-p.ensures c.requires.2 _ (search rules), c.requires.1)
+sample-requires-3 c = (c.requires.0, index_small c.position-p.ensures c.requires.1 _ (search rules))
 
 pub sample-requires-4 : goal.sample-requires-4
-sample-requires-4 c = (c.requires.0, index_small c.position-p.ensures c.requires.2 _ (search rules), c.requires.1)
+sample-requires-4 c = (c.requires.0, index_small c.position-p.ensures c.requires.1 _ (search rules))
 
 pub returns : goal.returns
 returns c =

@@ -7,7 +7,7 @@ use Rattle.fast_path.proofs.stay.Goals as goal
 
 pub moved-requires : goal.moved-requires
 moved-requires c =
-    (c.requires.0, c.requires.2, c.requires.3, c.requires.4, c.requires.5, step_small _ (sym c.in-Some.is ∙ c.requires.1))
+    (c.requires.0, c.requires.2, c.requires.3, c.requires.4, step_small _ (sym c.in-Some.is ∙ c.requires.1))
 
 pub returns-in-Some : goal.returns-in-Some
 returns-in-Some c =
@@ -18,7 +18,7 @@ returns-in-Some c =
 
 pub moved-requires-2 : goal.moved-requires-2
 moved-requires-2 c =
-    (c.requires.0, c.requires.2, c.requires.3, c.requires.4, c.requires.5, rw c.step.ensures (step_most _ _ _))
+    (c.requires.0, c.requires.2, c.requires.3, c.requires.4, rw c.step.ensures (step_most _ _ _))
 
 pub returns : goal.returns
 returns c =

@@ -8,9 +8,6 @@ use Rattle.layout.proofs.Tail.{rest_holds}
 use borrow.Author.Rules.{rules}
 use Rattle.layout.proofs.put_rest.Goals as goal
 
-pub put_tail-requires : goal.put_tail-requires
-put_tail-requires c = c.requires.0.size
-
 pub returns : goal.returns
 returns c =
     let left : SFits w16 c.args.reverb.held.left = search rules in

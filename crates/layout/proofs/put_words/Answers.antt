@@ -4,10 +4,10 @@ use Rattle.layout.proofs.Put.{words_none, words_more, words_end, from_place, fro
 use Rattle.layout.proofs.put_words.Goals as goal
 
 pub loop-w-init : goal.loop-w-init
-loop-w-init c = (search rules, words_none _ _ _ _)
+loop-w-init c = words_none _ _ _ _
 
 pub loop-w-preserved : goal.loop-w-preserved
-loop-w-preserved c = (search rules, words_more _ _ _ _ _ _ _ c.loop-w.invariant.1 (from_place _ _ c.place.ensures.0) (from_zero (λ u. get_or c.args.words.now u 0) _))
+loop-w-preserved c = words_more _ _ _ _ _ _ _ c.loop-w.invariant (from_place _ _ c.place.ensures.0) (from_zero (λ u. get_or c.args.words.now u 0) _)
 
 pub returns : goal.returns
-returns c = let v = c.loop-w.invariant in words_end _ _ _ _ _ _ v.1 (search rules) (search rules)
+returns c = words_end _ _ _ _ _ _ c.loop-w.invariant (search rules) (search rules)

@@ -1,11 +1,7 @@
 use native.Mathlib.Omega.{arith}
-use Rattle.layout.proofs.Laws.{tagged_length}
 use Rattle.range_check.proofs.Tests.{size_large, size_small, size_other}
 use borrow.Author.Rules.{rules}
 use Rattle.range_check.proofs.check.Goals as goal
-
-pub size-size-requires : goal.size-size-requires
-size-size-requires c = search (tagged_length, rules)
 
 pub ranges-requires : goal.ranges-requires
 ranges-requires c = let e = c.in-524288.is in (c.requires, c.size-size.ensures, size_large _ e, omega arith)

@@ -5,13 +5,13 @@ use borrow.Author.Rules.{rules}
 use Rattle.register_read.proofs.read.Goals as goal
 
 pub level-requires : goal.level-requires
-level-requires c = let h = of_voice_lem 0xC c.args.offset c.if-offset.true in (omega arith, search rules)
+level-requires c = let h = of_voice_lem 0xC c.args.offset c.if-offset.true in omega arith
 
 pub returns-then-offset : goal.returns-then-offset
 returns-then-offset c = search read_level
 
 pub repeat-requires : goal.repeat-requires
-repeat-requires c = let h = of_voice_lem 0xE c.args.offset c.if-offset-2.true in (omega arith, search rules)
+repeat-requires c = let h = of_voice_lem 0xE c.args.offset c.if-offset-2.true in omega arith
 
 pub returns-then-offset-2 : goal.returns-then-offset-2
 returns-then-offset-2 c = search read_repeat

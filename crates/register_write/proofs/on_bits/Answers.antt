@@ -1,7 +1,6 @@
 use mathlib.Core.Path.{refl}
 use borrow.Author.Rules.{rules}
 use Rattle.layout.specs.Layout.{state_of}
-use Rattle.layout.proofs.Laws.{same_size}
 use Rattle.register_write.specs.Keys.{key_bits}
 use Rattle.register_write.proofs.Work.{still_sized, bits_none_in, bits_more_in, holds_end}
 use Rattle.register_write.proofs.on_bits.Goals as goal
@@ -14,9 +13,6 @@ key-requires c = (search rules, search rules, still_sized _ c.requires.3 c.loop-
 
 pub loop-k-preserved : goal.loop-k-preserved
 loop-k-preserved c = search bits_more_in
-
-pub shape_of-state : goal.shape_of-state
-shape_of-state c = search same_size
 
 pub returns : goal.returns
 returns c =

@@ -3,7 +3,7 @@ use Rattle.chip.proofs.Tests.{sized}
 use Rattle.tick_runs.proofs.begin.Goals as goal
 
 pub reverb-requires : goal.reverb-requires
-reverb-requires c = (c.requires.0.size, below_2 c.requires.1.place (sized _ c.requires.1.size))
+reverb-requires c = below_2 c.requires.1.place (sized _ c.requires.1.size)
 
 pub returns : goal.returns
 returns c =

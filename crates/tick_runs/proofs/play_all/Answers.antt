@@ -55,7 +55,7 @@ stay-m-requires c =
     ]
     in
     let r = ready_in_range _ _ _ h b (played_in p h) in
-    (h, z.0.each _ h, b.holds.formed.size, r.counter, r.index, r.envelope.level)
+    (h, z.0.each _ h, r.counter, r.index, r.envelope.level)
 
 pub pass_end-watch-requires : goal.pass_end-watch-requires
 pass_end-watch-requires c =
@@ -138,12 +138,6 @@ loop-n-preserved c =
     let q = c.put_position.ensures in
     let e = c.step_envelope.ensures in
     played_more p z.3.sized h (play_plays _ _ _ h b _ _ _ (sym i ∙ f) refl m.0 m.1 m.3 refl (steps_stay _ _ _ _ _ _ _ h t q e)) (search rules)
-
-pub shape_of-state : goal.shape_of-state
-shape_of-state c =
-    let z = c.requires in
-    let p = c.loop-n.invariant in
-    p.holds.formed.size ∙ sym z.1.size
 
 pub returns : goal.returns
 returns c =

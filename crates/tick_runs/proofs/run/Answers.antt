@@ -30,9 +30,6 @@ loop-k-preserved c =
 pub end-requires : goal.end-requires
 end-requires c = let p = c.loop-k.invariant in (p.holds.formed, p.range.capture.even, p.range.place.even)
 
-pub shape_of-state : goal.shape_of-state
-shape_of-state c = let p = c.loop-k.invariant in c.end.ensures.formed.size ∙ sym c.requires.0.size
-
 pub shape_of-ram : goal.shape_of-ram
 shape_of-ram c = let p = c.loop-k.invariant in p.lent.ram_size ∙ sym c.requires.2.ram_size
 
