@@ -48,6 +48,7 @@ fn bytes(out: &mut Output, values: &[u8], from: usize, n: usize)
     }
 }
 
+// Beside `marks_end`: as one function it would take a closure, and its clause what the closure puts.
 fn bytes_end(out: &mut Output, values: &[u8], from: usize, n: usize)
     requires { from + n < 2 ^ 64 }
     ensures { Puts (bytes_end values.now from n) out.old out.new }

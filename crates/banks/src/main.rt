@@ -137,7 +137,7 @@ fn print_writes(rt: &impl Print, bank: &[u8]) -> io::Result<()> {
 
 // ---- the program
 
-// Fills a buffer from its start, up to its end or the file's, and answers how many bytes that took.
+// Fills a buffer from its start, up to its end or the file's, and answers how many bytes that took. `read_exact` does not say that where the file ends early.
 fn read_full(file: &mut impl Read, buffer: &mut [u8]) -> io::Result<usize>
     ensures { ReadsAtMost result buffer.new }
 {

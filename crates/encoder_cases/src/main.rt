@@ -107,7 +107,7 @@ fn answer_cases(rt: &impl Print, file: &mut impl Read) -> io::Result<()> {
 
 // ---- the files
 
-// Says on standard error why a file does not open.
+// Says on standard error why a file does not open. Two programs have it: a crate for these lines would be no plainer.
 fn open<R: Files + Eprint>(rt: &R, path: &str) -> io::Result<Option<R::File>> {
     match fs::open(rt, path) {
         Ok(file) => Ok(Some(file)),

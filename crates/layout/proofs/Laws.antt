@@ -372,7 +372,6 @@ self_holds xs e = record { formed = e; state = refl }
 pub holds_as : {xs : List ℕ} {s t : State} → Holds xs s → s ≡ t → Holds xs t
 holds_as h e = record { formed = h.formed; state = h.state ∙ e }
 
--- work in place keeps the length
 pub tagged_set : (xs : List ℕ) (i v : ℕ) → is_tagged xs ≡ true → 2 ≤ i → is_tagged (set xs i v) ≡ true
 unfolding is_tagged
 tagged_set xs i v e h =

@@ -16,7 +16,7 @@ fn end_flag(ended: u16, k: usize) -> u16
     ended << k
 }
 
-// The end flags of count voices from first on.
+// The end flags of count voices from first on. k is the bit of a flag and the number of a voice.
 fn end_flags(state: &Buffer, first: usize, count: usize) -> u16
     requires { (first + count ≤ 24) × (count ≤ 16) × Formed state.now }
     ensures { result ≡ end_flags (state_of state.now).voices first count }

@@ -66,7 +66,7 @@ fn key(state: &mut Buffer, set: bool, on: bool, n: usize)
     }
 }
 
-// Keys those of count voices, from first on, whose bits are set in value.
+// Keys those of count voices, from first on, whose bits are set in value. k is a bit of value and the number of a voice, and indexes nothing.
 fn on_bits(state: &mut Buffer, on: bool, value: u16, first: usize, count: usize)
     requires { (first + count ≤ 24) × (count ≤ 16) × Formed state.old × Sized (state_of state.old).choices.size }
     ensures { Holds state.new (key_bits on (state_of state.old) value first count) }
@@ -119,6 +119,7 @@ fn stop(state: &mut Buffer, n: usize)
     layout::put_envelope(state, n, Voice::fresh().envelope);
 }
 
+// By the voices' numbers, which index many arrays of the buffer.
 fn stop_all(state: &mut Buffer)
     requires { Formed state.old }
     ensures { Holds state.new (stop_voices (state_of state.old) 24) }
