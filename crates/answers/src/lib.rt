@@ -1,4 +1,4 @@
-// The lines that the programs answer, put into an output: their parts, and the short lines.
+// The lines that the programs answer, put into an output: their parts, and the short lines. A number is what the call for C gave, 0 unless it was refused.
 #![tactic(auto)]
 
 ghost use Rattle.std.specs.Prelude.{◌<◌, ◌≤◌};

@@ -1,4 +1,4 @@
-// Calls on a lent state: make, reset, status, register writes and reads, and the block view.
+// Calls on a lent state: make, reset, status, register writes and reads, and the block view. What C gets has a number, 0 unless the call is refused.
 #![tactic(auto)]
 
 ghost use Rattle.std.specs.Prelude.{◌≡◌, false, cond, List, ℕ, length, IfOk};

@@ -1,4 +1,4 @@
-// Calls on a lent state: one tick, and many.
+// Calls on a lent state: one tick, and many. What C gets has a number, 0 unless the call is refused; the pairs are two structs, since C has no generic one.
 #![tactic(auto)]
 
 ghost use Rattle.std.specs.Prelude.{◌≡◌, false, pos, map, length};

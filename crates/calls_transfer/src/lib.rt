@@ -1,4 +1,4 @@
-// Calls on a lent state: halfwords moved into and out of sound RAM.
+// Calls on a lent state: halfwords moved into and out of sound RAM. What C gets has a number, 0 unless the call is refused.
 #![tactic(auto)]
 
 ghost use Rattle.std.specs.Prelude.{◌≡◌, false, ◌&&◌, not, ◌%◌, length};

@@ -100,7 +100,8 @@ fn pass_end(
     load(state, n, past, size, ram, marks, w)
 }
 
-// All voices play a tick, one after the other, each in document 01's five steps. Most stay in their block, on the fast path.
+// All voices play a tick, one after the other, each in document 01's five steps. Most stay in their block, on the fast path. n is the voice's number, in
+// every array of the buffer.
 fn play_all(
     table: &Table,
     all: &AllSettings<'_>,

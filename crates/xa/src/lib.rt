@@ -85,7 +85,7 @@ fn nibble(sector: &[u8], n: usize, j: usize) -> u8
     }
 }
 
-// Decodes unit n to every `step`-th place from `at` on.
+// Decodes unit n to every `step`-th place from `at` on. j is the number of a sample, from which both its nibble and its place follow.
 fn unit(
     sector: &[u8],
     n: usize,
