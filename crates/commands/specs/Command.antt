@@ -2,7 +2,7 @@
 use Rattle.std.specs.Prelude.{Bool, true, false, cond, ◌&&◌, ◌||◌, Option, Some, None, List, [], ◌∷◌, ℕ, zero, suc, ◌+◌, ◌-◌, ◌*◌, ◌%◌, eqb, leb, get_or, replicate, set, ℤ, pos}
 use Rattle.fixed.specs.Signed.{signed}
 use Rattle.lines.specs.Fields.{packed}
-use Rattle.lines.specs.Line.{when, number, is_hex, is_count}
+use Rattle.lines.specs.Line.{when, is_hex, is_count}
 use Rattle.lines.specs.declared.Field.{Field}
 use Rattle.lines.specs.declared.Line.{Line}
 use Rattle.commands.specs.declared.Command.{Command}
@@ -11,7 +11,7 @@ use Rattle.commands.specs.declared.Command.TheVariants.{Quiet, Write, Read, Inwa
 -- ---- a line's fields, the command first
 
 abbrev pub field_in : List Field → ℕ → Field
-field_in fs n = get_or fs n (record { length = 0; word = 0; hex = None; decimal = None })
+field_in fs n = get_or fs n (record { length = 0; word = 0; hex = false; value = 0; decimal = false; count = 0 })
 
 abbrev pub field_at : Line → ℕ → Field
 field_at l n = field_in l.fields n
@@ -26,17 +26,17 @@ given n l = eqb l.count (n + 1)
 -- ---- numbers of fields; of one that was read and passed its test, the remainder is the number itself
 
 abbrev pub halfword : Field → ℕ
-halfword f = number f.hex % 0x10000
+halfword f = f.value % 0x10000
 
 -- "CD samples four digits, two's complement"
 abbrev pub sample_of : Field → ℤ
 sample_of f = signed 16 (halfword f)
 
 abbrev pub address_of : Field → ℕ
-address_of f = number f.hex
+address_of f = f.value % 0x100000000
 
 abbrev pub count_of : Field → ℕ
-count_of f = number f.decimal
+count_of f = f.count % 0x100000
 
 -- ---- the commands
 
@@ -85,7 +85,7 @@ reset_of l = when (given 0 l) Reset
 -- "ADDR N", N from least to most: a range of N units of so many bytes within sound RAM
 unfoldable pub ranged : ℕ → ℕ → ℕ → ℕ → Line → Bool
 ranged size unit least most l =
-    is_hex 1 8 (field_at l 1) && (is_count least most (field_at l 2) && leb (address_of (field_at l 1) + unit * count_of (field_at l 2)) size)
+    is_hex 1 8 (field_at l 1) && (is_count least most (field_at l 2) && leb (address_of (field_at l 1) + unit * (field_at l 2).count) size)
 
 -- "ram ADDR N", "N 1 to 64"
 unfoldable pub ram_of : ℕ → Line → Option Command
@@ -101,7 +101,7 @@ marks_of size l =
 unfoldable pub fill_of : ℕ → Line → Option Command
 fill_of size l =
     when (given 3 l && (ranged size 1 0 0x80000 l && is_hex 1 2 (field_at l 3)))
-    (Fill (address_of (field_at l 1)) (count_of (field_at l 2)) (number (field_at l 3).hex % 0x100))
+    (Fill (address_of (field_at l 1)) (count_of (field_at l 2)) ((field_at l 3).value % 0x100))
 
 -- ---- by its word
 

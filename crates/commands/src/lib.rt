@@ -55,7 +55,7 @@ pub enum Command {
 fn halfword(f: Field) -> u16
     ensures { result ≡ halfword f }
 {
-    (f.hex.unwrap_or(0) % 0x10000) as u16
+    (f.value % 0x10000) as u16
 }
 
 // The halfword of a field of hex digits, from least to most of them.

@@ -16,8 +16,8 @@ struct Span {
 }
 
 // The range that the first two fields after the command give, of units of so many bytes.
-fn read_span(size: u64, unit: u64, least: u32, most: u32, l: Line) -> Option<Span>
-    requires { unit ≤ 2 }
+fn read_span(size: u64, unit: u64, least: u64, most: u64, l: Line) -> Option<Span>
+    requires { (unit ≤ 2) × (most ≤ 0x80000) }
     ensures { result ≡ when (ranged size unit least most l) (record { address = address_of (field_at l 1); count = count_of (field_at l 2) }) }
 {
     let address = l.fields[1].hex_within(1, 8)?;

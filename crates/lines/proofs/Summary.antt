@@ -2,14 +2,13 @@
 use mathlib.Core.Path.{◌≡◌, refl, sym, ap, ◌∙◌}
 use mathlib.Core.Bool.{Bool, true, false, cond, ◌&&◌, ◌||◌, and-true, and_assoc, or-false}
 use mathlib.Core.List.{List, [], ◌∷◌, ◌++◌, map, map-append, append_assoc, append-nil}
-use Prim.Native.Nat.{ℕ, zero, suc, ◌+◌, ◌*◌, ◌<◌, min}
+use Prim.Native.Nat.{ℕ, zero, suc, ◌+◌, ◌*◌, min}
 use native.Mathlib.Omega.{arith}
 use lib.Dec.{eqb, ltb, eqb-suc-zero}
 use lib.ListN.{length, drop, set, length-append}
 use borrow.Author.Tests.{ne_eqb}
 use Rattle.lines.specs.Fields.{blank, flush, fields_from, digit_of, digits_only, number_from, packed_from}
-use Rattle.std.specs.Prelude.{Some, None}
-use Rattle.lines.specs.Line.{length_limit, word_limit, value_limit, count_limit, written, field_of, none_of, longer_of, more_of, is_hex, kept, first_fields, every, line_with, summary_of, fresh_of, joined_of, ended_of, begun_of, grown_of, feed_of, fed_of}
+use Rattle.lines.specs.Line.{length_limit, word_limit, value_limit, count_limit, field_of, none_of, more_of, is_hex, kept, first_fields, every, line_with, summary_of, fresh_of, joined_of, ended_of, begun_of, grown_of, feed_of, fed_of}
 use Rattle.lines.specs.declared.Field.{Field}
 use Rattle.lines.specs.declared.Line.{Line}
 use Rattle.lines.proofs.Laws.{limited, ended_same, ended_joined}
@@ -35,15 +34,6 @@ field_none = refl
 one_more : (n m : ℕ) → min (n + 1) m ≡ min (min n m + 1) m
 one_more n m = omega arith
 
-written_more : (base limit : ℕ) (bs : List ℕ) (b : ℕ) → 0 < base → written base limit (bs ++ b ∷ []) ≡ longer_of base limit (written base limit bs) b
-written_more base limit bs b h = rw (digits_snoc base bs b, number_snoc base 0 bs b) (by (digits_only base bs))
-  where
-    by : (x : Bool)
-        → cond (x && ltb (digit_of b) base) (Some (min (number_from base 0 bs * base + digit_of b) limit)) None
-        ≡ longer_of base limit (cond x (Some (min (number_from base 0 bs) limit)) None) b
-    by true = rw (limited (number_from base 0 bs) base (digit_of b) limit h)
-    by false = refl
-
 field_more : (bs : List ℕ) (b : ℕ) → field_of (bs ++ b ∷ []) ≡ more_of (field_of bs) b
 unfolding field_of more_of
 field_more bs b =
@@ -51,9 +41,13 @@ field_more bs b =
       length-append,
       one_more (length bs) length_limit,
       packed_snoc 1 bs b,
+      digits_snoc 16 bs b,
+      digits_snoc 10 bs b,
+      number_snoc 16 0 bs b,
+      number_snoc 10 0 bs b,
       ← limited (packed_from 1 bs) 256 b word_limit (omega arith),
-      written_more 16 value_limit bs b (omega arith),
-      written_more 10 count_limit bs b (omega arith),
+      ← limited (number_from 16 0 bs) 16 (digit_of b) value_limit (omega arith),
+      ← limited (number_from 10 0 bs) 10 (digit_of b) count_limit (omega arith),
     )
 
 -- ---- one field more

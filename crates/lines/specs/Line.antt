@@ -1,5 +1,5 @@
 -- What is kept of a field and of a line, and how a byte more changes it. Assumes nothing.
-use Rattle.std.specs.Prelude.{Bool, true, false, cond, not, ◌&&◌, ◌||◌, Option, Some, None, is_some, List, [], ◌∷◌, map, ℕ, zero, suc, ◌+◌, ◌*◌, min, eqb, leb, ltb, length, get_or, drop, replicate, set}
+use Rattle.std.specs.Prelude.{Bool, true, false, cond, not, ◌&&◌, ◌||◌, Option, Some, None, List, [], ◌∷◌, map, ℕ, zero, suc, ◌+◌, ◌*◌, min, eqb, leb, ltb, length, get_or, drop, replicate, set}
 use Rattle.lines.specs.Fields.{blank, digit_of, digits_only, number_from, packed, fields_of}
 use Rattle.lines.specs.declared.Field.{Field}
 use Rattle.lines.specs.declared.Line.{Line}
@@ -24,32 +24,20 @@ count_limit = 1000000
 abbrev pub when : {A : Type 0} → Bool → A → Option A
 when p x = cond p (Some x) None
 
--- the number that bytes write, if each is a digit in the base
-abbrev pub written : ℕ → ℕ → List ℕ → Option ℕ
-written base limit bs = when (digits_only base bs) (min (number_from base 0 bs) limit)
-
--- the number that digits write, 0 where there are none
-abbrev pub number : Option ℕ → ℕ
-number None = 0
-number (Some n) = n
-
 unfoldable pub field_of : List ℕ → Field
 field_of bs =
     record {
       length = min (length bs) length_limit;
       word = min (packed bs) word_limit;
-      hex = written 16 value_limit bs;
-      decimal = written 10 count_limit bs;
+      hex = digits_only 16 bs;
+      value = min (number_from 16 0 bs) value_limit;
+      decimal = digits_only 10 bs;
+      count = min (number_from 10 0 bs) count_limit;
     }
 
 -- no byte yet
 unfoldable pub none_of : Field
-none_of = record { length = 0; word = 1; hex = Some 0; decimal = Some 0 }
-
--- a number with one digit more, if the byte is one in the base
-abbrev pub longer_of : ℕ → ℕ → Option ℕ → ℕ → Option ℕ
-longer_of base limit None b = None
-longer_of base limit (Some n) b = when (ltb (digit_of b) base) (min (n * base + digit_of b) limit)
+none_of = record { length = 0; word = 1; hex = true; value = 0; decimal = true; count = 0 }
 
 -- one byte more
 unfoldable pub more_of : Field → ℕ → Field
@@ -57,21 +45,19 @@ more_of f b =
     record {
       length = min (f.length + 1) length_limit;
       word = min (f.word * 256 + b) word_limit;
-      hex = longer_of 16 value_limit f.hex b;
-      decimal = longer_of 10 count_limit f.decimal b;
+      hex = f.hex && ltb (digit_of b) 16;
+      value = min (f.value * 16 + digit_of b) value_limit;
+      decimal = f.decimal && ltb (digit_of b) 10;
+      count = min (f.count * 10 + digit_of b) count_limit;
     }
 
 -- "hex, 1-4 digits": digits of either case, from least to most of them
 unfoldable pub is_hex : ℕ → ℕ → Field → Bool
-is_hex least most f = is_some f.hex && (leb least f.length && leb f.length most)
-
-abbrev pub counts : ℕ → ℕ → ℕ → Option ℕ → Bool
-counts least most length None = false
-counts least most length (Some n) = not (eqb length 0) && (leb least n && leb n most)
+is_hex least most f = f.hex && (leb least f.length && leb f.length most)
 
 -- decimal digits, leading zeros let go, for a number from least to most
 unfoldable pub is_count : ℕ → ℕ → Field → Bool
-is_count least most f = counts least most f.length f.decimal
+is_count least most f = f.decimal && (not (eqb f.length 0) && (leb least f.count && leb f.count most))
 
 -- ---- of a line: the command and its first 33 fields; of those after them, that they are halfwords
 

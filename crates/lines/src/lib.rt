@@ -1,17 +1,20 @@
 // What is kept of a line of text and of each field, and the tests of a field. A line may be of any length: what is kept is bounded.
 #![tactic(auto)]
 
-ghost use Rattle.std.specs.Prelude.{◌≡◌, ◌<◌, ◌≤◌};
-ghost use Rattle.lines.specs.Line.{when, number, longer_of, none_of, more_of, is_hex, is_count, fresh_of};
+ghost use Rattle.std.specs.Prelude.{◌≡◌, ◌+◌, ◌*◌, ◌%◌, min};
+ghost use Rattle.lines.specs.Fields.{digit_of};
+ghost use Rattle.lines.specs.Line.{when, none_of, more_of, is_hex, is_count, fresh_of};
 
-// A field: its length, its bytes as one number, and the numbers that they write as hex digits and as decimal digits, where they are
-// such digits. Each number is kept up to a limit.
+// A field: its length, its bytes as one number, whether they are hex digits and their value, whether they are decimal digits and the
+// count. Each number is kept up to a limit.
 #[derive(Clone, Copy)]
 pub struct Field {
     pub length: u64,
     pub word: u64,
-    pub hex: Option<u32>,
-    pub decimal: Option<u32>,
+    pub hex: bool,
+    pub value: u64,
+    pub decimal: bool,
+    pub count: u64,
 }
 
 // A line so far: whether it has a byte, whether the first is #, the field that runs, the first 34 that have ended, how many
@@ -34,14 +37,18 @@ pub enum Scanned {
     Open { line: Line },
 }
 
-// A number with one digit more, up to a limit; none where the byte is no digit in the base.
-fn longer(number: Option<u32>, base: u32, b: u8, limit: u32) -> Option<u32>
-    requires { (2 ≤ base) × (base ≤ 16) }
-    ensures { result ≡ longer_of base limit number b }
+// What a hex digit counts, 16 for a byte that is none.
+fn digit(b: u8) -> u64
+    ensures { result ≡ digit_of b }
 {
-    let n = u64::from(number?);
-    let digit = char::from(b).to_digit(base)?;
-    Some((n * u64::from(base) + u64::from(digit)).min(u64::from(limit)) as u32)
+    u64::from(char::from(b).to_digit(16).unwrap_or(16))
+}
+
+// A number with one digit more, up to a limit.
+fn longer(n: u64, base: u64, d: u64, limit: u64) -> u64
+    ensures { result ≡ min (n * base + d) limit }
+{
+    n.saturating_mul(base).saturating_add(d).min(limit)
 }
 
 impl Field {
@@ -52,8 +59,10 @@ impl Field {
         Field {
             length: 0,
             word: 1,
-            hex: Some(0),
-            decimal: Some(0),
+            hex: true,
+            value: 0,
+            decimal: true,
+            count: 0,
         }
     }
 
@@ -61,15 +70,14 @@ impl Field {
     pub fn more(self, b: u8) -> Self
         ensures { result ≡ more_of self b }
     {
+        let d = digit(b);
         Field {
             length: self.length.saturating_add(1).min(9),
-            word: self
-                .word
-                .saturating_mul(256)
-                .saturating_add(u64::from(b))
-                .min(0x1000000000000),
-            hex: longer(self.hex, 16, b, 0xFFFFFFFF),
-            decimal: longer(self.decimal, 10, b, 1000000),
+            word: longer(self.word, 256, u64::from(b), 0x1000000000000),
+            hex: self.hex & (d < 16),
+            value: longer(self.value, 16, d, 0xFFFFFFFF),
+            decimal: self.decimal & (d < 10),
+            count: longer(self.count, 10, d, 1000000),
         }
     }
 
@@ -77,27 +85,27 @@ impl Field {
     pub fn is_hex(self, least: u64, most: u64) -> bool
         ensures { result ≡ is_hex least most self }
     {
-        self.hex.is_some() & ((least <= self.length) & (self.length <= most))
+        self.hex & ((least <= self.length) & (self.length <= most))
     }
 
-    // The number of a field of hex digits, from least to most of them.
+    // The value of a field of hex digits, from least to most of them. Of a field that was read, the remainder is the value itself.
     pub fn hex_within(self, least: u64, most: u64) -> Option<u32>
-        ensures { result ≡ when (is_hex least most self) (number self.hex) }
+        ensures { result ≡ when (is_hex least most self) (self.value % 0x100000000) }
     {
         if self.is_hex(least, most) {
-            self.hex
+            Some((self.value % 0x100000000) as u32)
         } else {
             None
         }
     }
 
-    // The number of a field of decimal digits, if it goes from least to most.
-    pub fn count_within(self, least: u32, most: u32) -> Option<u32>
-        ensures { result ≡ when (is_count least most self) (number self.decimal) }
+    // The count of a field of decimal digits, if it goes from least to most. Of a field that was read, the remainder is the count
+    // itself.
+    pub fn count_within(self, least: u64, most: u64) -> Option<u32>
+        ensures { result ≡ when (is_count least most self) (self.count % 0x100000000) }
     {
-        let n = self.decimal?;
-        if !(self.length == 0) & ((least <= n) & (n <= most)) {
-            Some(n)
+        if self.decimal & (!(self.length == 0) & ((least <= self.count) & (self.count <= most))) {
+            Some((self.count % 0x100000000) as u32)
         } else {
             None
         }

@@ -1,6 +1,7 @@
 use Rattle.std.proofs.Common.{arith}
 use Rattle.std.proofs.lemmas.Grind.{common_steps}
 use Rattle.std.proofs.lemmas.Bool.Decides.{nat_tests}
+use Rattle.lines.specs.Line.{is_count}
 use Rattle.commands.specs.Command.{outward_of}
 use Rattle.commands.proofs.outward_line.Goals as goal
 
@@ -13,5 +14,5 @@ unfolding outward_of
 returns-in_err-count c = grind (arith, nat_tests, common_steps)
 
 pub returns : goal.returns
-unfolding outward_of
+unfolding outward_of is_count
 returns c = grind (arith, nat_tests, common_steps)

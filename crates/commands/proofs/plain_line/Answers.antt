@@ -1,6 +1,7 @@
 use Rattle.std.proofs.Common.{arith}
 use Rattle.std.proofs.lemmas.Grind.{common_steps}
 use Rattle.std.proofs.lemmas.Bool.Decides.{nat_tests}
+use Rattle.lines.specs.Line.{is_count}
 use Rattle.commands.specs.Command.{plain_of}
 use Rattle.commands.proofs.plain_line.Goals as goal
 
@@ -9,7 +10,7 @@ unfolding plain_of
 returns-then-l-ne2 c = grind (arith, nat_tests, common_steps)
 
 pub returns : goal.returns
-unfolding plain_of
+unfolding plain_of is_count
 returns c = grind (arith, nat_tests, common_steps)
 
 pub returns-in_err-count_within : goal.returns-in_err-count_within

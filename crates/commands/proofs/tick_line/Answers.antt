@@ -1,6 +1,7 @@
 use Rattle.std.proofs.Common.{arith}
 use Rattle.std.proofs.lemmas.Grind.{common_steps}
 use Rattle.std.proofs.lemmas.Bool.Decides.{nat_tests}
+use Rattle.lines.specs.Line.{is_count}
 use Rattle.commands.specs.Command.{tick_of, plain_of}
 use Rattle.commands.proofs.tick_line.Goals as goal
 
@@ -21,5 +22,5 @@ unfolding tick_of plain_of
 returns-in_err-right c = grind (arith, nat_tests, common_steps)
 
 pub returns : goal.returns
-unfolding tick_of plain_of
+unfolding tick_of plain_of is_count
 returns c = grind (arith, nat_tests, common_steps)
