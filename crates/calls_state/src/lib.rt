@@ -183,6 +183,6 @@ pub fn block_view<'a>(state: &[u16], ram: &'a [u8], address: u32) -> &'a [u8]
             let a = address as usize;
             &ram[a..a + 16]
         }
-        Err(_) => &[],
+        Err(_) => &ram[..0],
     }
 }

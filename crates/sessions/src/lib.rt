@@ -3,6 +3,7 @@
 
 ghost use Rattle.std.specs.Prelude.{◌≡◌, ◌+◌, ◌≤◌, length, set};
 ghost use Rattle.sessions.specs.Fill.{filled_of};
+ghost use Rattle.sessions.specs.Program.{OutputOnly};
 
 use answers::Transfer;
 use answers_ticks::Tick;
@@ -34,7 +35,9 @@ impl Program<'_> {
 
     // Writes what waits, unless a write failed before.
     fn flush(&mut self)
-        ensures { (self.new.out.place ≡ 0) × (length self.new.out.bytes.now ≡ length self.old.out.bytes.now) }
+        ensures emptied { self.new.out.place ≡ 0 }
+        ensures bytes { self.new.out.bytes.now ≡ self.old.out.bytes.now }
+        ensures rest { OutputOnly self.old self.new }
     {
         if self.open {
             let stdout = &mut self.stdout;
@@ -46,7 +49,9 @@ impl Program<'_> {
 
     // No answer's line is longer than 512 bytes: where it might not fit, what waits is written first.
     fn make_room(&mut self)
-        ensures { 512 ≤ length self.old.out.bytes.now → self.new.out.place + 512 ≤ length self.new.out.bytes.now }
+        ensures room { 512 ≤ length self.old.out.bytes.now → self.new.out.place + 512 ≤ length self.new.out.bytes.now }
+        ensures bytes { self.new.out.bytes.now ≡ self.old.out.bytes.now }
+        ensures rest { OutputOnly self.old self.new }
     {
         let length = self.out.bytes.len();
         if length < 512 || length - 512 < self.out.place {
@@ -74,7 +79,9 @@ impl Program<'_> {
     }
 
     // The buffer is lent holding A5A5h everywhere, and shown whole.
-    fn outward(&mut self, count: u32) {
+    fn outward(&mut self, count: u32)
+        ensures { (self.new.ram.now ≡ self.old.ram.now) × (self.new.marks.now ≡ self.old.marks.now) }
+    {
         let mut values = [0xA5A5u16; 64];
         let buffer = &mut values[..(count as usize).min(64)];
         let ram = &mut *self.ram;
@@ -132,7 +139,9 @@ impl Program<'_> {
         }
     }
 
-    fn view(&mut self, address: u32) {
+    fn view(&mut self, address: u32)
+        ensures { OutputOnly self.old self.new }
+    {
         let state = &mut *self.state;
         let ram = &mut *self.ram;
         let number = calls_state::tenonwhisk_view_number(state, ram, address);
@@ -240,6 +249,16 @@ impl Program<'_> {
         Ok(())
     }
 
+    // The last line of the output.
+    fn end(&mut self)
+        ensures { OutputOnly self.old self.new }
+    {
+        self.make_room();
+        let state = &mut *self.state;
+        let now = calls_state::tenonwhisk_status(state);
+        answers::ended(&mut self.out, now.doubt);
+    }
+
     // A last piece without LF is a line if it is not empty. After a failed read neither it nor the last line of the output comes, so
     // that what was answered does not look whole.
     fn all_lines(&mut self, stdin: &mut impl Read) -> io::Result<()> {
@@ -247,9 +266,7 @@ impl Program<'_> {
         if self.line.begun {
             self.answer(self.line);
         }
-        self.make_room();
-        let now = calls_state::tenonwhisk_status(self.state);
-        answers::ended(&mut self.out, now.doubt);
+        self.end();
         Ok(())
     }
 }
