@@ -16,7 +16,7 @@ struct Span {
 }
 
 // The range that the first two fields after the command give, of units of so many bytes.
-fn read_span(size: u64, unit: u64, least: u64, most: u64, l: Line) -> Option<Span>
+fn read_span(size: u64, unit: u64, least: u32, most: u32, l: Line) -> Option<Span>
     requires { unit ≤ 2 }
     ensures { result ≡ when (ranged size unit least most l) (record { address = address_of (field_at l 1); count = count_of (field_at l 2) }) }
 {

@@ -92,12 +92,11 @@ impl Field {
     }
 
     // The number of a field of decimal digits, if it goes from least to most.
-    pub fn count_within(self, least: u64, most: u64) -> Option<u32>
+    pub fn count_within(self, least: u32, most: u32) -> Option<u32>
         ensures { result ≡ when (is_count least most self) (number self.decimal) }
     {
         let n = self.decimal?;
-        let count = u64::from(n);
-        if !(self.length == 0) & ((least <= count) & (count <= most)) {
+        if !(self.length == 0) & ((least <= n) & (n <= most)) {
             Some(n)
         } else {
             None
