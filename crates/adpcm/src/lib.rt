@@ -84,10 +84,18 @@ pub struct Coding {
 }
 
 impl Coding {
+    // A filter that no block has, 5 or above, has no factors, as in the definition.
     pub fn of(header: Header) -> Coding
-        requires { (header.shift ≤ 12) × (header.filter < 5) }
+        requires { header.shift ≤ 12 }
         ensures { result.header ≡ header }
     {
+        if 5 <= header.filter {
+            return Coding {
+                header,
+                f0: 0,
+                f1: 0,
+            };
+        }
         Coding {
             header,
             f0: k0(header.filter),

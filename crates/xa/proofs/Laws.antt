@@ -1,5 +1,5 @@
 -- Laws of the XA definitions. Assumes nothing.
-use mathlib.Core.Path.{◌≡◌, refl, sym, ap, ap₂, ◌∙◌}
+use mathlib.Core.Path.{◌≡◌, refl, sym, subst, ap, ap₂, ◌∙◌}
 use mathlib.Core.Bool.{Bool, true, false, cond, ◌&&◌}
 use mathlib.Core.List.{List, [], ◌∷◌, ◌++◌}
 use Prim.Native.Nat.{ℕ, zero, suc, ◌+◌, ◌-◌, ◌*◌, ◌/◌, ◌%◌, ◌≤◌, ◌<◌}
@@ -9,7 +9,7 @@ use native.Mathlib.Omega.{arith}
 use native.Mathlib.Decide.{ℕ_discrete}
 use borrow.Author.Tests.{eq-eqb, ne_eqb}
 use lib.ListN.{length, set, take, drop, get_or, length-append, length-drop}
-use lib.Seq.{get_or-take, get_or-drop}
+use lib.Seq.{get_or-take, get_or-drop, drop-drop}
 use lib.IntN.{ℤ}
 use lib.Dec.{eqb}
 use Rattle.fixed.specs.Bits.{field}
@@ -71,6 +71,9 @@ module _ {sector : List ℕ} {n : ℕ} {h : Header} {at step : ℕ} {before : Li
   pub part_none : h ≡ header_of (header_byte sector n) → Part sector n h at step before first before first 0
   unfolding unit_of
   part_none e = let q : at + 0 * step ≡ at = omega arith in record { placed = rw (q, e); after = rw e }
+
+  pub part_begun : {last : History} → h ≡ header_of (header_byte sector n) → last ≡ first → Part sector n h at step before first before last 0
+  part_begun e f = subst (λ l. Part sector n h at step before first before l 0) (sym f) (part_none e)
 
   pub part_more : {out : List ℤ} {last next : History} {j : ℕ} {t : ℕ} {x : ℤ} → Part sector n h at step before first out last j → j < 28 → t ≡ nibble_of sector n j
       → x ≡ sample_of t h last.old last.older → next ≡ record { old = x; older = last.old } → Part sector n h at step before first (set out (at + j * step) x) next (j + 1)
@@ -205,6 +208,18 @@ same_runs xs n i j l m =
     let b = length-drop j xs in
     same_bytes n (drop i xs) (drop j xs) (omega arith) (omega arith)
     ∙ all_alike _ _ n (λ k p. ap₂ eqb (get_or-drop i xs k 0) (get_or-drop j xs k 0))
+
+-- four bytes of a list that is cut into fours
+word : (n k : ℕ) (xs : List ℕ) → k < n → get_or (first_chunks 4 n xs) k [] ≡ take 4 (drop (k * 4) xs)
+word zero k xs l = absurd (omega (arith, l))
+word (suc n) zero xs l = refl
+word (suc n) (suc k) xs l =
+    let q : 4 + k * 4 ≡ suc k * 4 = omega arith in
+    word n k (drop 4 xs) (omega (arith, l)) ∙ ap (take 4) (drop-drop (k * 4) 4 xs ∙ ap (λ i. drop i xs) q)
+
+-- four bytes of a group, as `as_chunks` cuts it
+pub word_of : (xs : List ℕ) {words : List (List ℕ)} → length xs ≡ 128 → words ≡ first_chunks 4 (length xs / 4) xs → (k : ℕ) → k < 32 → get_or words k [] ≡ take 4 (drop (k * 4) xs)
+word_of xs l e k m = ap (λ ws. get_or ws k []) (e ∙ ap (λ n. first_chunks 4 (n / 4) xs) l) ∙ word 32 k xs m
 
 -- what `==` says of the copies in one group
 pub group_by : (xs : List ℕ) {a b : Bool} → length xs ≡ 128 → a ≡ pointwise eqb (take 4 (drop 0 xs)) (take 4 (drop 4 xs)) → b ≡ pointwise eqb (take 4 (drop 12 xs)) (take 4 (drop 8 xs))

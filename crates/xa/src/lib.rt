@@ -43,7 +43,8 @@ pub fn fresh() -> Histories
 fn is_group_copied(group: &[u8; 128]) -> bool
     ensures { result ≡ is_group_copied group.now 0 }
 {
-    (group[..4] == group[4..8]) & (group[12..16] == group[8..12])
+    let words = group.as_chunks::<4>().0;
+    (words[0] == words[1]) & (words[3] == words[2])
 }
 
 fn are_copied(sector: &[u8]) -> bool

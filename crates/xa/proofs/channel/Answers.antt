@@ -28,7 +28,7 @@ pub unit-h-requires : goal.unit-h-requires
 unit-h-requires c = (search rules, omega (arith, within _ _ _ c.requires.3 c.loop-n-test.true), search rules, omega (arith, within _ _ _ c.requires.3 c.loop-n-test.true))
 
 pub loop-n-preserved : goal.loop-n-preserved
-loop-n-preserved c = channel_more c.loop-n.invariant c.unit-h.ensures
+loop-n-preserved c = channel_more c.loop-n.invariant (c.unit-h.ensures.0, search rules)
 
 pub returns : goal.returns
 returns c = channel_all c.loop-n.invariant (omega arith) c.loop-n-test.false
