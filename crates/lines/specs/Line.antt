@@ -136,5 +136,5 @@ fed_of l (b ∷ bs) = fed_of (feed_of l b) bs
 
 -- "A line is what stands before LF": the bytes up to it are fed, from index i on
 unfoldable pub scan_of : Line → ℕ → List ℕ → Scanned
-scan_of l i [] = Open l
+scan_of l i [] = Open l i
 scan_of l i (b ∷ bs) = cond (eqb b 10) (Ended l (i + 1)) (scan_of (feed_of l b) (i + 1) bs)

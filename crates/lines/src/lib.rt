@@ -30,11 +30,11 @@ pub struct Line {
     pub halfwords: bool,
 }
 
-// A line after a run of bytes: at its end, with the index past it, or at theirs.
+// A line after a run of bytes, at its end or at theirs, and the index past it.
 #[derive(Clone, Copy)]
 pub enum Scanned {
     Ended { line: Line, at: usize },
-    Open { line: Line },
+    Open { line: Line, at: usize },
 }
 
 // What a hex digit counts, 16 for a byte that is none.

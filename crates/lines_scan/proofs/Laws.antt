@@ -1,5 +1,5 @@
 -- Laws of a byte more and of a run of bytes. Assumes nothing.
-use mathlib.Core.Path.{◌≡◌, sym, ◌∙◌}
+use mathlib.Core.Path.{◌≡◌, sym, ap, ◌∙◌}
 use mathlib.Core.Bool.{Bool, true, false}
 use mathlib.Core.List.{List}
 use Prim.Native.Nat.{ℕ, suc, ◌+◌, ◌-◌, ◌≤◌, ◌<◌, min}
@@ -53,6 +53,8 @@ module _ (rest : List ℕ) (from i : ℕ) (l : Line) (r : Scanned) (e : scan_of 
   unfolding scan_of
   scan_end h n = rw (eq-eqb (get_or rest i 0) 10 n) at (rw (drop-cons rest i 0 h) at e)
 
-  pub scan_out : length rest ≤ i → Open l ≡ r
+  pub scan_out : length rest ≤ i → i ≤ length rest → Open l (from + length rest) ≡ r
   unfolding scan_of
-  scan_out h = rw (drop_of_length-le rest h) at e
+  scan_out h g =
+      let q : i ≡ length rest = omega arith in
+      ap (λ n. Open l (from + n)) (sym q) ∙ (rw (drop_of_length-le rest h) at e)

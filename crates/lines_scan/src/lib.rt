@@ -91,5 +91,8 @@ pub fn scan(l: Line, bytes: &[u8], from: usize) -> Scanned
         }
         line = feed(line, b);
     }
-    Scanned::Open { line }
+    Scanned::Open {
+        line,
+        at: from + rest.len(),
+    }
 }

@@ -224,7 +224,7 @@ impl Program<'_> {
                     self.more = self.open;
                     at = next;
                 }
-                Scanned::Open { line } => {
+                Scanned::Open { line, .. } => {
                     self.line = line;
                     self.more = true;
                     return;
