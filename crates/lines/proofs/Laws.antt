@@ -3,9 +3,11 @@ use mathlib.Core.Path.{◌≡◌, sym, ◌∙◌}
 use mathlib.Core.Bool.{Bool, ◌&&◌}
 use Prim.Native.Nat.{ℕ, ◌+◌, ◌-◌, ◌*◌, ◌^◌, ◌≤◌, ◌<◌, min}
 use native.Mathlib.Omega.{arith}
-use native.Mathlib.Nat.{min-eq_left, min-eq_right, le-mul_of_pos_right}
+use native.Mathlib.Nat.{le_trans, lt_of_le_of_lt, mul-le-mul, min-eq_left, min-eq_right, min-le_right, le-mul_of_pos_right}
 use native.Mathlib.Decide.{dec_le}
-use lib.Dec.{eqb, ltb, eqb→eq}
+use lib.Dec.{eqb, ltb, lit<, eqb→eq}
+use mir.Syntax.{w64}
+use mir.Val.{Fits}
 use borrow.Author.Tests.{eq-eqb, ne_eqb}
 use Rattle.std.specs.Char.{digit_value}
 use Rattle.fixed.proofs.Table.{below_at}
@@ -25,6 +27,9 @@ pub digit_is : (b : ℕ) → b < 256 → digit_of b ≡ min (digit_value b) 16
 unfolding digit_same digit_of
 digit_is b h = eqb→eq _ _ (below_at 256 digit_same tt b h)
 
+pub digit_small : (b : ℕ) {d : ℕ} → b < 256 → d ≡ digit_of b → d ≤ 256
+digit_small b h e = let k = digit_is b h in omega (arith, e, k)
+
 -- ---- up to a limit
 
 -- what is already past the limit may be held to it before a digit joins
@@ -38,6 +43,22 @@ limited n base d limit h = by (dec_le n limit)
         let a = le-mul_of_pos_right limit h in
         let b = le-mul_of_pos_right n h in
         rw (min-eq_right p) (min-eq_right {n = limit} {m = limit * base + d} (omega arith) ∙ sym (min-eq_right {n = limit} {m = n * base + d} (omega arith)))
+
+-- one digit more, of a number m that was held to the limit
+module _ (n m base d limit : ℕ) (e : m ≡ min n limit) (most : base ≤ 256) (low : limit ≤ 0x1000000000000) where
+  product_most : m * base ≤ 0x100000000000000
+  product_most = mul-le-mul (le_trans (rw e (min-le_right n limit)) low) most
+
+  pub longer_is : {r : ℕ} → 0 < base → r ≡ min (m * base + d) limit → r ≡ min (n * base + d) limit
+  longer_is h q = q ∙ rw e (limited n base d limit h)
+
+pub longer_product : (n m base limit : ℕ) → m ≡ min n limit → base ≤ 256 → limit ≤ 0x1000000000000 → Fits w64 (m * base)
+longer_product n m base limit e most low = record { fits = lt_of_le_of_lt (product_most n m base 0 limit e most low) (lit< tt) }
+
+pub longer_sum : (n m base d limit : ℕ) → m ≡ min n limit → base ≤ 256 → limit ≤ 0x1000000000000 → d ≤ 256 → Fits w64 (m * base + d)
+longer_sum n m base d limit e most low h =
+    let p = product_most n m base d limit e most low in
+    record { fits = omega arith }
 
 -- ---- fields
 

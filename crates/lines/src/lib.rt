@@ -1,12 +1,12 @@
 // What is kept of a line of text and of each field, and the tests of a field. A line may be of any length: what is kept is bounded.
 #![tactic(auto)]
 
-ghost use Rattle.std.specs.Prelude.{◌≡◌, ◌+◌, ◌*◌, ◌%◌, min};
+ghost use Rattle.std.specs.Prelude.{◌≡◌, ◌+◌, ◌*◌, ◌%◌, ◌<◌, ◌≤◌, min};
 ghost use Rattle.lines.specs.Fields.{digit_of};
 ghost use Rattle.lines.specs.Line.{when, none_of, more_of, is_hex, is_count, fresh_of};
 
 // A field: its length, its bytes as one number, whether they are hex digits and their value, whether they are decimal digits and the
-// count. Each number is kept up to a limit.
+// count. Each number is kept up to a limit. The flags stand beside the numbers, since `field_of` gives a number of bytes that are no digits too.
 #[derive(Clone, Copy)]
 pub struct Field {
     pub length: u64,
@@ -46,9 +46,10 @@ fn digit(b: u8) -> u64
 
 // A number with one digit more, up to a limit.
 fn longer(n: u64, base: u64, d: u64, limit: u64) -> u64
+    requires { (0 < base) × (base ≤ 256) × (d ≤ 256) × (limit ≤ 0x1000000000000) }
     ensures { result ≡ min (n * base + d) limit }
 {
-    n.saturating_mul(base).saturating_add(d).min(limit)
+    (n.min(limit) * base + d).min(limit)
 }
 
 impl Field {
