@@ -53,8 +53,11 @@ module _ (rest : List ℕ) (from i : ℕ) (l : Line) (r : Scanned) (e : scan_of 
   unfolding scan_of
   scan_end h n = rw (eq-eqb (get_or rest i 0) 10 n) at (rw (drop-cons rest i 0 h) at e)
 
-  pub scan_out : length rest ≤ i → i ≤ length rest → Open l (from + length rest) ≡ r
+  pub scan_out : length rest ≤ i → Open l (from + i) ≡ r
   unfolding scan_of
-  scan_out h g =
+  scan_out h = rw (drop_of_length-le rest h) at e
+
+  pub scan_all : length rest ≤ i → i ≤ length rest → Open l (from + length rest) ≡ r
+  scan_all h g =
       let q : i ≡ length rest = omega arith in
-      ap (λ n. Open l (from + n)) (sym q) ∙ (rw (drop_of_length-le rest h) at e)
+      ap (λ n. Open l (from + n)) (sym q) ∙ scan_out h

@@ -1,5 +1,5 @@
 use borrow.Author.Rules.{rules}
-use Rattle.lines_scan.proofs.Laws.{scan_first, scan_more, scan_end, scan_out}
+use Rattle.lines_scan.proofs.Laws.{scan_first, scan_more, scan_end, scan_all}
 use Rattle.lines_scan.proofs.scan.Goals as goal
 
 pub loop-i-init : goal.loop-i-init
@@ -12,4 +12,4 @@ pub loop-i-preserved : goal.loop-i-preserved
 loop-i-preserved c = search (scan_more, rules)
 
 pub returns : goal.returns
-returns c = search (scan_out, rules)
+returns c = search (scan_all, rules)
